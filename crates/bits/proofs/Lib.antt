@@ -1,0 +1,4 @@
+pub mod Digits
+pub mod Merging
+pub mod Runs
+pub mod Tests

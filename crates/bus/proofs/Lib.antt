@@ -1,0 +1,5 @@
+pub mod Starts
+pub mod Accepted
+pub mod Cells
+pub mod Meaning
+pub mod Dots

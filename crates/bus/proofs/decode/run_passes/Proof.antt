@@ -1,0 +1,39 @@
+-- `bus::decode::run_passes` meets its contract: one of three tests, by the subaddress.
+-- Assumes nothing.
+use borrow.Author.Needs.{needs}
+use borrow.Author.Tests.{eq-eqb, ne-eqb}
+use Rattle.bus.specs.Writes.{passes}
+use Rattle.bus.proofs.decode.run_passes.Statement.{statement}
+use Rattle.bus.proofs.decode.run_passes.Tie as tie
+
+cursor-passes-requires : tie.Need-cursor-passes-requires
+cursor-passes-requires c κs = search needs
+
+returns : tie.Need-returns
+unfolding passes
+returns c = rw (eq-eqb _ _ (c .before .if1 .taken)) (c .cursor-passes .ensures)
+
+colours-pass-requires : tie.Need-colours-pass-requires
+colours-pass-requires c κs = search needs
+
+returns-2 : tie.Need-returns-2
+unfolding passes
+returns-2 c = rw (ne-eqb _ _ (c .before .before .if1 .left), eq-eqb _ _ (c .before .if2 .taken)) (c .colours-pass .ensures)
+
+registers-pass-requires : tie.Need-registers-pass-requires
+registers-pass-requires c κs = search needs
+
+returns-3 : tie.Need-returns-3
+unfolding passes
+returns-3 c = rw (ne-eqb _ _ (c .before .before .if1 .left), ne-eqb _ _ (c .before .if2 .left)) (c .registers-pass .ensures)
+
+pub run-passes-spec : {M : Type 1} → statement M
+run-passes-spec =
+    tie.close
+    (tie.spec
+    cursor-passes-requires
+    returns
+    colours-pass-requires
+    returns-2
+    registers-pass-requires
+    returns-3)

@@ -1,0 +1,18 @@
+-- `bus::store::write_colours` meets its contract: cells of three bytes.
+-- Assumes nothing.
+use borrow.Author.Needs.{needs}
+use Rattle.bus.proofs.Accepted.{colours-cells}
+use Rattle.bus.proofs.store.write_colours.Statement.{statement}
+use Rattle.bus.proofs.store.write_colours.Tie as tie
+
+write-cells-requires : tie.Need-write-cells-requires
+write-cells-requires c κs = let a = c .before .before .before .args in colours-cells (a .table .now) (a .bytes .now) (c .before .before .before .pre .0) (c .before .before .before .pre .1)
+
+same-length : tie.Need-same-length
+same-length c = search needs
+
+returns : tie.Need-returns
+returns c = c .before .before .write-cells .ensures
+
+pub write-colours-spec : {M : Type 1} → statement M
+write-colours-spec = tie.close (tie.spec write-cells-requires same-length returns)

@@ -1,0 +1,5 @@
+pub mod Writes
+pub mod States
+pub mod Reads
+pub mod Meaning
+pub mod Cursor

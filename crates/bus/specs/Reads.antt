@@ -1,0 +1,44 @@
+-- Document 01, "Bus writes and reads": a read is the write address, a place and the read address, and gives one byte.
+-- The readable places are those of source document 003, Table 105. Assumes nothing.
+use mathlib.Core.Bool.{Bool, cond, not, _||_}
+use mathlib.Core.List.{List, [], _∷_}
+use Prim.Native.Nat.{ℕ}
+use lib.Dec.{eqb}
+use lib.ListN.{length, getD}
+use Rattle.reply.specs.Reply.{lowest, done, wrongLength, wrongAddress, notReadable}
+use Rattle.bus.specs.declared.state.State.{State}
+use Rattle.bus.specs.declared.state.ReadAnswer.{ReadAnswer}
+
+abbrev pub statusAt : ℕ
+statusAt = 0x00
+
+abbrev pub chipAt : ℕ
+chipAt = 0x1C
+
+abbrev pub fifoAt : ℕ
+fifoAt = 0x80
+
+abbrev pub readable : ℕ → Bool
+readable place = eqb place statusAt || (eqb place chipAt || eqb place fifoAt)
+
+-- the number of a read
+unfoldable pub readReply : List ℕ → ℕ
+readReply t =
+    lowest
+    ((wrongLength, not (eqb (length t) 3))
+    ∷ (wrongAddress, not (eqb (getD t 0 0) 0x88) || not (eqb (getD t 2 0) 0x89))
+    ∷ (notReadable, not (readable (getD t 1 0)))
+    ∷ [])
+
+-- the byte at a readable place, of the three
+unfoldable pub byteOf : ℕ → ℕ → ℕ → ℕ → ℕ
+byteOf status chip fifo place = cond (eqb place statusAt) status (cond (eqb place chipAt) chip fifo)
+
+-- a read: it changes nothing, and beside a refusal the byte is 0
+unfoldable pub busRead : State → List ℕ → ReadAnswer
+busRead s t =
+    record {
+      state = s;
+      reply = readReply t;
+      byte = cond (eqb (readReply t) done) (byteOf (s .status) (s .chip) (s .fifo) (getD t 1 0)) 0;
+    }

@@ -1,0 +1,120 @@
+// write_reply and read_reply: what is refused of a transaction, before anything is done.
+ghost use mathlib.Core.Path.{_≡_};
+ghost use Prim.Native.Nat.{_<_};
+ghost use lib.ListN.{length, getD};
+ghost use Rattle.bus.specs.Writes.{passes, cursorPasses, coloursPass, registersPass, writeReply};
+ghost use Rattle.bus.specs.Reads.{readable, readReply};
+use reply::DONE;
+use reply::NOT_READABLE;
+use reply::PASSES_END;
+use reply::WRONG_ADDRESS;
+use reply::WRONG_LENGTH;
+
+// The slave address, for a write and for a read.
+const WRITE_ADDRESS: u8 = 0x88;
+
+const READ_ADDRESS: u8 = 0x89;
+
+// A run of registers ends before this subaddress.
+const REGISTERS_END: usize = 0xFE;
+
+// The subaddresses of the cursor map and of the colour table.
+pub const CURSOR: u8 = 0xFE;
+
+pub const COLOURS: u8 = 0xFF;
+
+// Cursor bytes, and colour cells.
+const CELLS: usize = 256;
+
+// The readable places.
+pub const STATUS: u8 = 0x00;
+
+pub const CHIP: u8 = 0x1C;
+
+pub const FIFO: u8 = 0x80;
+
+// The start cell, the first byte of the data.
+pub fn start_of(bytes: &[u8]) -> usize
+    requires { ⌜ 0 < length (now bytes) ⌝ }
+    ensures { λ r. ⌜ (r ≡ getD (now (bytes .entry)) 0 0) × (r < 256) ⌝ }
+{
+    bytes[0] as usize
+}
+
+fn registers_pass(subaddress: u8, bytes: &[u8]) -> bool
+    ensures { λ r. ⌜ r ≡ registersPass subaddress (now (bytes .entry)) ⌝ }
+{
+    REGISTERS_END < (subaddress as usize) + bytes.len()
+}
+
+fn cursor_passes(bytes: &[u8]) -> bool
+    ensures { λ r. ⌜ r ≡ cursorPasses (now (bytes .entry)) ⌝ }
+{
+    if bytes.len() == 0 {
+        return false;
+    }
+    CELLS < start_of(bytes) + (bytes.len() - 1)
+}
+
+fn colours_pass(bytes: &[u8]) -> bool
+    ensures { λ r. ⌜ r ≡ coloursPass (now (bytes .entry)) ⌝ }
+{
+    if bytes.len() == 0 {
+        return false;
+    }
+    let count = bytes.len() - 1;
+    (count % 3 != 0) | (CELLS < start_of(bytes) + count / 3)
+}
+
+fn run_passes(subaddress: u8, bytes: &[u8]) -> bool
+    ensures { λ r. ⌜ r ≡ passes subaddress (now (bytes .entry)) ⌝ }
+{
+    if subaddress == CURSOR {
+        return cursor_passes(bytes);
+    }
+    if subaddress == COLOURS {
+        return colours_pass(bytes);
+    }
+    registers_pass(subaddress, bytes)
+}
+
+// The reply to a write.
+pub fn write_reply(transaction: &[u8]) -> u8
+    ensures { λ r. ⌜ r ≡ writeReply (now (transaction .entry)) ⌝ }
+{
+    if transaction.len() < 2 {
+        return WRONG_LENGTH;
+    }
+    if transaction[0] != WRITE_ADDRESS {
+        return WRONG_ADDRESS;
+    }
+    if run_passes(transaction[1], &transaction[2..]) {
+        return PASSES_END;
+    }
+    DONE
+}
+
+fn is_readable(place: u8) -> bool
+    ensures { λ r. ⌜ r ≡ readable place ⌝ }
+{
+    (place == STATUS) | ((place == CHIP) | (place == FIFO))
+}
+
+// The reply to a read.
+pub fn read_reply(transaction: &[u8]) -> u8
+    ensures { λ r. ⌜ r ≡ readReply (now (transaction .entry)) ⌝ }
+{
+    if transaction.len() != 3 {
+        return WRONG_LENGTH;
+    }
+    if transaction[0] != WRITE_ADDRESS {
+        return WRONG_ADDRESS;
+    }
+    if transaction[2] != READ_ADDRESS {
+        return WRONG_ADDRESS;
+    }
+    if is_readable(transaction[1]) {
+        return DONE;
+    }
+    NOT_READABLE
+}

@@ -1,0 +1,151 @@
+// State: the file, the colour table, the cursor map and the three readable bytes; fresh, set, written and read.
+ghost use mathlib.Core.Path.{_≡_};
+ghost use Rattle.bus.specs.States.{zeroState, freshAnswer, withStatus, withFifo, busWrite};
+ghost use Rattle.bus.specs.Reads.{byteOf, busRead};
+use crate::decode::CHIP;
+use crate::decode::COLOURS;
+use crate::decode::CURSOR;
+use crate::decode::STATUS;
+use crate::decode::read_reply;
+use crate::decode::write_reply;
+use crate::store::write_colours;
+use crate::store::write_cursor;
+use crate::store::write_registers;
+use reply::DONE;
+use reply::WRONG_REQUEST;
+
+pub struct State {
+    pub file: [u8; 256],
+    // 256 cells of red, green and blue.
+    pub colours: [u8; 768],
+    pub cursor: [u8; 256],
+    // The readable bytes, at 00h, 1Ch and 80h.
+    pub status: u8,
+    pub chip: u8,
+    pub fifo: u8,
+}
+
+// The next state, and the reply.
+pub struct Answer {
+    pub state: State,
+    pub reply: u8,
+}
+
+// The next state, the reply, and the byte that was read, 0 beside a refusal.
+pub struct ReadAnswer {
+    pub state: State,
+    pub reply: u8,
+    pub byte: u8,
+}
+
+// The chip bytes of the SAA7102 and the SAA7103.
+const SAA7102: u8 = 0x02;
+
+const SAA7103: u8 = 0x03;
+
+fn zeros(chip: u8) -> State
+    ensures { λ r. ⌜ r ≡ zeroState chip ⌝ }
+{
+    State {
+        file: [0; 256],
+        colours: [0; 768],
+        cursor: [0; 256],
+        status: 0,
+        chip,
+        fifo: 0,
+    }
+}
+
+// The byte at a readable place.
+fn readable_byte(place: u8, status: u8, chip: u8, fifo: u8) -> u8
+    ensures { λ r. ⌜ r ≡ byteOf status chip fifo place ⌝ }
+{
+    if place == STATUS {
+        return status;
+    }
+    if place == CHIP {
+        return chip;
+    }
+    fifo
+}
+
+impl State {
+    // A fresh state of a chip; another chip byte than the two is refused, with a state that is all zero.
+    pub fn fresh(chip: u8) -> Answer
+        ensures { λ r. ⌜ r ≡ freshAnswer chip ⌝ }
+    {
+        if (chip == SAA7102) | (chip == SAA7103) {
+            return Answer {
+                state: zeros(chip),
+                reply: DONE,
+            };
+        }
+        Answer {
+            state: zeros(0),
+            reply: WRONG_REQUEST,
+        }
+    }
+
+    pub fn set_status(mut self, byte: u8) -> Self
+        ensures { λ r. ⌜ r ≡ withStatus self byte ⌝ }
+    {
+        self.status = byte;
+        self
+    }
+
+    pub fn set_fifo(mut self, byte: u8) -> Self
+        ensures { λ r. ⌜ r ≡ withFifo self byte ⌝ }
+    {
+        self.fifo = byte;
+        self
+    }
+
+    // A bus write: the transaction goes in with the state, and the next state comes back.
+    pub fn write(mut self, transaction: &[u8]) -> Answer
+        ensures { λ r. ⌜ r ≡ busWrite self (now (transaction .entry)) ⌝ }
+    {
+        let reply = write_reply(transaction);
+        if reply != DONE {
+            return Answer { state: self, reply };
+        }
+        let subaddress = transaction[1];
+        let bytes = &transaction[2..];
+        if subaddress == CURSOR {
+            let mut map = self.cursor;
+            write_cursor(&mut map, bytes);
+            self.cursor = map;
+            return Answer { state: self, reply };
+        }
+        if subaddress == COLOURS {
+            let mut table = self.colours;
+            write_colours(&mut table, bytes);
+            self.colours = table;
+            return Answer { state: self, reply };
+        }
+        let mut file = self.file;
+        write_registers(&mut file, subaddress, bytes);
+        self.file = file;
+        Answer { state: self, reply }
+    }
+
+    // A bus read: one of the three readable bytes, and the state as it was.
+    pub fn read(self, transaction: &[u8]) -> ReadAnswer
+        ensures { λ r. ⌜ r ≡ busRead self (now (transaction .entry)) ⌝ }
+    {
+        let reply = read_reply(transaction);
+        if reply != DONE {
+            return ReadAnswer {
+                state: self,
+                reply,
+                byte: 0,
+            };
+        }
+        let place = transaction[1];
+        let byte = readable_byte(place, self.status, self.chip, self.fifo);
+        ReadAnswer {
+            state: self,
+            reply,
+            byte,
+        }
+    }
+}

@@ -1,0 +1,5 @@
+pub mod Pieces
+pub mod Putting
+pub mod Lists
+pub mod Shifts
+pub mod Describing

@@ -1,0 +1,4 @@
+pub mod Piece
+pub mod Fields
+pub mod Laws
+pub mod Described
