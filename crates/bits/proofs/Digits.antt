@@ -1,9 +1,11 @@
--- Numbers and their bits: a number of n bits is what its bits make, and two numbers with the same bits are equal.
+-- Numbers and their bits: a number of n bits is what its bits make, and two numbers with the same bits are
+-- equal.
 -- Assumes nothing.
 use mathlib.Core.Path.{_≡_, refl, sym, _∙_}
 use mathlib.Core.Logic.{⊎-elim}
 use Prim.Native.Nat.{ℕ, zero, suc, _+_, _-_, _*_, _/_, _%_, _^_, _<_, min, max}
-use native.Mathlib.Nat.{add-zero, mul-assoc, mod-lt, mod-eq-of-lt, mod-one, mul-add-div-right, div-eq-of-lt, pow-succ', eq-or-lt-of-le, not-suc-le-zero}
+use native.Mathlib.Nat.{add-zero, mul-assoc, mod-lt, mod-eq-of-lt, mod-one, mul-add-div-right, div-eq-of-lt}
+use native.Mathlib.Nat.{pow-succ', eq-or-lt-of-le, not-suc-le-zero}
 use native.Mathlib.Numerals.{one-add}
 use native.Mathlib.Omega.{arith}
 use lib.Arith.{digits-lt}
@@ -35,7 +37,12 @@ pub bit-under : (a n r j : ℕ) → j < n → bit (a * 2 ^ n + r) j ≡ bit r j
 unfolding bit
 bit-under a n r j l =
     let e : n ≡ suc (n - suc j) + j = omega arith in
-    rw (e, pow-add 2 (suc (n - suc j)) j, ← mul-assoc a (2 ^ suc (n - suc j)) (2 ^ j), mul-add-div-right (pow-pos j) (a * 2 ^ suc (n - suc j)) r)
+    rw (
+      e,
+      pow-add 2 (suc (n - suc j)) j,
+      ← mul-assoc a (2 ^ suc (n - suc j)) (2 ^ j),
+      mul-add-div-right (pow-pos j) (a * 2 ^ suc (n - suc j)) r,
+    )
     (block-odd a (n - suc j) (r / 2 ^ j))
 
 pub bit-number : (n : ℕ) (b : ℕ → ℕ) → Bits b → (j : ℕ) → j < n → bit (number n b) j ≡ b j
@@ -59,7 +66,8 @@ number-cong (suc n) b d h = rw (h n (omega arith), number-cong n b d (λ j l. h 
 
 pub bit-ext : (n x y : ℕ) → x < 2 ^ n → y < 2 ^ n → ((j : ℕ) → j < n → bit x j ≡ bit y j) → x ≡ y
 bit-ext n x y hx hy h =
-    sym (number-bit n x ∙ mod-eq-of-lt hx) ∙ number-cong n (bit x) (bit y) h ∙ number-bit n y ∙ mod-eq-of-lt hy
+    sym (number-bit n x ∙ mod-eq-of-lt hx) ∙ number-cong n (bit x) (bit y) h ∙ number-bit n y
+    ∙ mod-eq-of-lt hy
 
 -- ---- the bits of `&`, `|` and `!`
 
@@ -87,7 +95,8 @@ flipped : (n : ℕ) (b : ℕ → ℕ) → Bits b → number n (λ j. 1 - b j) + 
 unfolding number
 flipped zero b h = refl
 flipped (suc n) b h =
-    rw pow-succ' (flip-step (b n) (2 ^ n) (number n (λ j. 1 - b j)) (number n b) (h n) (pow-pos n) (flipped n b h))
+    rw pow-succ' (flip-step (b n) (2 ^ n) (number n (λ j. 1 - b j)) (number n b) (h n) (pow-pos n)
+    (flipped n b h))
 
 pub bit-not : (n m j : ℕ) → m < 2 ^ n → j < n → bit (2 ^ n - 1 - m) j ≡ 1 - bit m j
 bit-not n m j hm l =

@@ -7,7 +7,7 @@ use native.Mathlib.Omega.{arith}
 use lib.Dec.{eqb}
 use lib.Bits.{bitAnd, bitOr, or-lt, and-lt}
 use Rattle.bits.specs.Bit.{bit, has}
-use Rattle.bits.specs.Merge.{merge}
+use Rattle.bits.specs.Merge.{merge, MergeMeans}
 use Rattle.bits.proofs.Digits.{Bits, bit-lt, number-lt, bit-number, bit-ext, bit-and, bit-or, bit-not}
 
 pub cond-lt : (t : Bool) (x y : ℕ) → x < 2 → y < 2 → cond t x y < 2
@@ -21,7 +21,6 @@ pub merge-lt : (m old new : ℕ) → merge m old new < 256
 unfolding merge
 merge-lt m old new = number-lt 8 _ (merged-bits m old new)
 
--- the theorem: a bit that the mask has is the new byte's, any other the old byte's
 pub merge-bit : (m old new j : ℕ) → j < 8 → bit (merge m old new) j ≡ cond (has m j) (bit new j) (bit old j)
 unfolding merge
 merge-bit m old new j l = bit-number 8 _ (merged-bits m old new) j l
@@ -37,7 +36,8 @@ pub merge-halves : (m old new : ℕ) → m < 256 → old < 256 → new < 256
 merge-halves m old new hm ho hn =
     bit-ext 8 _ _ (or-lt 8 _ _ (and-lt 8 _ _ ho (omega arith)) (and-lt 8 _ _ hn hm)) (merge-lt m old new)
     (λ j l. simp (bit-or, bit-and)
-    (rw (bit-not 8 m j hm l, merge-bit m old new j l) (choose (bit m j) (bit old j) (bit new j) (bit-lt m j) (bit-lt old j) (bit-lt new j))))
+    (rw (bit-not 8 m j hm l, merge-bit m old new j l)
+    (choose (bit m j) (bit old j) (bit new j) (bit-lt m j) (bit-lt old j) (bit-lt new j))))
 
 pub cond-same : (t : Bool) (x : ℕ) → cond t x x ≡ x
 cond-same true x = refl
@@ -47,3 +47,12 @@ cond-same false x = refl
 pub merge-same : (m x : ℕ) → x < 256 → merge m x x ≡ x
 merge-same m x h =
     bit-ext 8 _ _ (merge-lt m x x) h (λ j l. merge-bit m x x j l ∙ cond-same (has m j) (bit x j))
+
+pub merge-means : (m old new : ℕ) → MergeMeans m old new
+merge-means m old new =
+    record {
+      byte = merge-lt m old new;
+      taken = λ j l h. merge-bit m old new j l ∙ rw h;
+      kept = λ j l h. merge-bit m old new j l ∙ rw h;
+      same = merge-same m old;
+    }

@@ -3,15 +3,16 @@
 use mathlib.Core.Path.{_≡_, sym, _∙_}
 use mathlib.Core.Bool.{false, not, _||_}
 use mathlib.Core.List.{List, []}
-use Prim.Native.Nat.{ℕ, _+_, _/_, _%_, _≤_}
+use Prim.Native.Nat.{ℕ, _+_, _-_, _*_, _/_, _%_, _<_, _≤_}
+use native.Mathlib.Nat.{div-add-mod, mul-le-mul-left}
 use native.Mathlib.Omega.{arith}
 use borrow.Author.Tests.{ltb-false, eqb-true, not-false, eq-eqb, ne-eqb}
 use lib.Dec.{eqb, ltb}
 use lib.ListN.{length, getD, drop, length-drop}
 use Rattle.bits.proofs.Tests.{or-left, or-right}
 use Rattle.reply.proofs.Lowest.{none-applies}
-use Rattle.bus.specs.Writes.{registersPass, cursorPasses, coloursPass, passes, writeReply, CellsFit}
-use Rattle.bus.specs.Reads.{readReply}
+use Rattle.bus.specs.Writes.{registersPass, cellsPass, passes, writeTests, writeReply}
+use Rattle.bus.specs.Reads.{readTests, readReply}
 use Rattle.bus.proofs.Starts.{some-start}
 
 -- ---- writes
@@ -21,7 +22,7 @@ pub record Accepted (t : List ℕ) : Type 0 where
   pub fits : passes (getD t 1 0) (drop 2 t) ≡ false
 
 pub accepted : (t : List ℕ) → writeReply t ≡ 0 → Accepted t
-unfolding writeReply
+unfolding writeReply writeTests
 accepted t e =
     let a = none-applies 1 (ltb (length t) 2) _ (omega arith) e in
     let b = none-applies 2 (not (eqb (getD t 0 0) 0x88)) _ (omega arith) (a .1) in
@@ -29,45 +30,44 @@ accepted t e =
     record { long = ltb-false (length t) 2 (a .0); fits = d .0 }
 
 module _ (subaddress : ℕ) (bytes : List ℕ) (e : passes subaddress bytes ≡ false) where
-  pub cursor-fits : subaddress ≡ 0xFE → cursorPasses bytes ≡ false
+  pub cursor-fits : subaddress ≡ 0xFE → cellsPass 1 bytes ≡ false
   unfolding passes
   cursor-fits h = rw (eq-eqb subaddress 0xFE h) at e
 
-  pub colours-fit : (subaddress ≡ 0xFE → ⊥) → subaddress ≡ 0xFF → coloursPass bytes ≡ false
+  pub colours-fit : (subaddress ≡ 0xFE → ⊥) → subaddress ≡ 0xFF → cellsPass 3 bytes ≡ false
   unfolding passes
   colours-fit n h = rw (ne-eqb subaddress 0xFE n, eq-eqb subaddress 0xFF h) at e
 
-  pub registers-fit : (subaddress ≡ 0xFE → ⊥) → (subaddress ≡ 0xFF → ⊥) → registersPass subaddress bytes ≡ false
+  pub registers-fit : (subaddress ≡ 0xFE → ⊥) → (subaddress ≡ 0xFF → ⊥) → registersPass subaddress bytes
+      ≡ false
   unfolding passes
   registers-fit n h = rw (ne-eqb subaddress 0xFE n, ne-eqb subaddress 0xFF h) at e
 
 -- ---- runs that do not pass their end
 
-pub registers-end : (subaddress : ℕ) (bytes : List ℕ) → registersPass subaddress bytes ≡ false → subaddress + length bytes ≤ 254
+pub registers-end : (subaddress : ℕ) (bytes : List ℕ) → registersPass subaddress bytes ≡ false
+    → subaddress + length bytes ≤ 254
 unfolding registersPass
 registers-end subaddress bytes e = ltb-false 254 (subaddress + length bytes) e
 
-pub cursor-cells : (map bytes : List ℕ) → length map ≡ 256 → cursorPasses bytes ≡ false → CellsFit 1 map bytes
-unfolding cursorPasses
-cursor-cells map bytes l e h =
-    let f : ltb 256 (getD bytes 0 0 + length (drop 1 bytes)) ≡ false = sym (some-start _ _ bytes h) ∙ e in
-    let g = ltb-false 256 (getD bytes 0 0 + length (drop 1 bytes)) f in
-    let d = length-drop 1 bytes in
-    omega arith
-
-pub colours-cells : (table bytes : List ℕ) → length table ≡ 768 → coloursPass bytes ≡ false → CellsFit 3 table bytes
-unfolding coloursPass
-colours-cells table bytes l e h =
+-- whole cells that do not pass the end lie in a map of 256 cells
+pub cells-fit : (width : ℕ) (map bytes : List ℕ) → 0 < width → length map ≡ 256 * width → cellsPass width bytes ≡ false
+    → 0 < length bytes → width * getD bytes 0 0 + (length bytes - 1) ≤ length map
+unfolding cellsPass
+cells-fit width map bytes w l e h =
     let n = length (drop 1 bytes) in
-    let f : (not (eqb (n % 3) 0) || ltb 256 (getD bytes 0 0 + n / 3)) ≡ false = sym (some-start _ _ bytes h) ∙ e in
-    let a = eqb-true (n % 3) 0 (not-false (eqb (n % 3) 0) (or-left (not (eqb (n % 3) 0)) _ f)) in
-    let b = ltb-false 256 (getD bytes 0 0 + n / 3) (or-right (not (eqb (n % 3) 0)) _ f) in
+    let f : (not (eqb (n % width) 0) || ltb 256 (getD bytes 0 0 + n / width)) ≡ false = sym (some-start _ _ bytes h) ∙ e in
+    let a = eqb-true (n % width) 0 (not-false (eqb (n % width) 0) (or-left (not (eqb (n % width) 0)) _ f)) in
+    let b = ltb-false 256 (getD bytes 0 0 + n / width) (or-right (not (eqb (n % width) 0)) _ f) in
     let d = length-drop 1 bytes in
+    let q = div-add-mod n width in
+    let m = mul-le-mul-left width b in
     omega arith
 
 -- ---- reads
 
 pub read-long : (t : List ℕ) → readReply t ≡ 0 → length t ≡ 3
-unfolding readReply
+unfolding readReply readTests
 read-long t e =
-    eqb-true (length t) 3 (not-false (eqb (length t) 3) (none-applies 1 (not (eqb (length t) 3)) _ (omega arith) e .0))
+    eqb-true (length t) 3
+    (not-false (eqb (length t) 3) (none-applies 1 (not (eqb (length t) 3)) _ (omega arith) e .0))

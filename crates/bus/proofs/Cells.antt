@@ -13,13 +13,15 @@ use Rattle.bus.specs.Meaning.{CellsMean}
 abbrev plain : ℕ → ℕ → ℕ → ℕ
 plain p old b = b
 
-pub cells-mean : (width : ℕ) (map : List ℕ) (start : ℕ) (bytes : List ℕ) → width * start + length bytes ≤ length map
+pub cells-mean : (width : ℕ) (map : List ℕ) (start : ℕ) (bytes : List ℕ)
+    → width * start + length bytes ≤ length map
     → CellsMean width map start bytes (sets map (width * start) bytes)
 cells-mean width map start bytes f =
     record {
       long = length-sets map (width * start) bytes;
       inside = λ k h l m.
           let e : width * (start + k) + h ≡ width * start + (width * k + h) = omega arith in
-          rw e (rule-inside sets plain (λ l i. refl) (λ l i v vs. refl) map (width * start) bytes f (width * k + h) m);
+          rw e (rule-inside sets plain (λ l i. refl) (λ l i v vs. refl) map (width * start) bytes f
+          (width * k + h) m);
       outside = rule-outside sets plain (λ l i. refl) (λ l i v vs. refl) map (width * start) bytes;
     }

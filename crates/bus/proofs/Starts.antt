@@ -9,12 +9,14 @@ use lib.ListN.{length, getD, take, drop, length-drop}
 use lib.Seq.{take-all}
 use Rattle.bus.specs.Writes.{fromStart}
 
-pub no-start : {A : Type 0} (none : A) (some : ℕ → List ℕ → A) (l : List ℕ) → length l ≡ 0 → fromStart none some l ≡ none
+pub no-start : {A : Type 0} (none : A) (some : ℕ → List ℕ → A) (l : List ℕ) → length l ≡ 0
+    → fromStart none some l ≡ none
 unfolding fromStart
 no-start none some [] e = refl
 no-start none some (x ∷ l) e = absurd (omega arith)
 
-pub some-start : {A : Type 0} (none : A) (some : ℕ → List ℕ → A) (l : List ℕ) → 0 < length l → fromStart none some l ≡ some (getD l 0 0) (drop 1 l)
+pub some-start : {A : Type 0} (none : A) (some : ℕ → List ℕ → A) (l : List ℕ) → 0 < length l
+    → fromStart none some l ≡ some (getD l 0 0) (drop 1 l)
 unfolding fromStart
 some-start none some [] h = absurd (not-suc-le-zero h)
 some-start none some (x ∷ l) h = refl

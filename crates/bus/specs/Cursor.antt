@@ -30,6 +30,9 @@ rowStart map row = cond (hasRow map row) (8 * row) 0
 unfoldable pub rowCount : List ℕ → ℕ → ℕ
 rowCount map row = cond (hasRow map row) 8 0
 
+abbrev pub rowBytes : List ℕ → ℕ → List ℕ
+rowBytes map row = take (rowCount map row) (drop (rowStart map row) map)
+
 -- ---- dots
 
 -- the dot at a column and a row is byte 8r + floor(c/4), bits 2(c mod 4) and the next
@@ -42,9 +45,9 @@ pub record DotsLie : Type 0 where
   pub lie : (column row : ℕ) → column < 32 → row < 32 → T (lies 256 (dot column row))
   -- in the row: byte floor(c/4) of its eight has the dot
   pub inRow : (map : List ℕ) (column row : ℕ) → length map ≡ 256 → column < 32 → row < 32
-      → getPiece map (dot column row)
-      ≡ bitsAt (getD (take (rowCount map row) (drop (rowStart map row) map)) (column / 4) 0) (2 * (column % 4)) 2
+      → getPiece map (dot column row) ≡ bitsAt (getD (rowBytes map row) (column / 4) 0) (2 * (column % 4)) 2
   -- no bit of the map is in two dots
-  pub alone : (q j c₁ r₁ c₂ r₂ : ℕ) → c₁ < 32 → c₂ < 32 → T (holds (dot c₁ r₁) q j) → T (holds (dot c₂ r₂) q j) → (c₁ ≡ c₂) × (r₁ ≡ r₂)
+  pub alone : (q j c₁ r₁ c₂ r₂ : ℕ) → c₁ < 32 → c₂ < 32
+      → T (holds (dot c₁ r₁) q j) → T (holds (dot c₂ r₂) q j) → (c₁ ≡ c₂) × (r₁ ≡ r₂)
   -- and every bit is in one
   pub every : (q j : ℕ) → j < 8 → T (holds (dot (4 * (q % 8) + j / 2) (q / 8)) q j)

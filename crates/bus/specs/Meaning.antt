@@ -1,4 +1,5 @@
--- What bus writes mean, stated place by place: theorems about the definitions of States.antt and Writes.antt.
+-- What bus writes mean, place by place, and the replies: theorems about the definitions of Writes.antt,
+-- States.antt and Reads.antt.
 -- Assumes nothing.
 use mathlib.Core.Path.{_≡_}
 use mathlib.Core.List.{List, [], _∷_}
@@ -7,9 +8,16 @@ use Prim.Native.Nat.{ℕ, _+_, _*_, _<_, _≤_}
 use lib.ListN.{length, getD, drop}
 use Rattle.bits.specs.Run.{RunMeans}
 use Rattle.chip.specs.Map.{masks}
+use Rattle.reply.specs.Reply.{LowestMeans}
 use Rattle.bus.specs.declared.state.State.{State}
-use Rattle.bus.specs.Writes.{writeReply}
+use Rattle.bus.specs.Writes.{writeTests, writeReply}
+use Rattle.bus.specs.Reads.{readTests}
 use Rattle.bus.specs.States.{withFile, withColours, withCursor, busWrite}
+
+-- The reply is the lowest number that applies.
+pub record RepliesMean : Type 0 where
+  pub write : (t : List ℕ) → LowestMeans (writeTests t)
+  pub read : (t : List ℕ) → LowestMeans (readTests t)
 
 -- Any write: a refusal changes nothing, and no write changes a readable byte.
 pub record AnyWrite (s : State) (t : List ℕ) (after : State) : Type 0 where
@@ -18,16 +26,20 @@ pub record AnyWrite (s : State) (t : List ℕ) (after : State) : Type 0 where
   pub chip : after .chip ≡ s .chip
   pub fifo : after .fifo ≡ s .fifo
 
--- An accepted write of registers: what the run does place by place and bit by bit, and that nothing else changes.
+-- An accepted write of registers: what the run does place by place and bit by bit, and that nothing else
+-- changes.
 pub record RegisterWrite (s : State) (subaddress : ℕ) (bytes : List ℕ) (after : State) : Type 0 where
   pub run : RunMeans masks (s .file) subaddress bytes (after .file)
   pub rest : after ≡ withFile s (after .file)
 
--- Cells of `width` bytes from a start cell on, in a map: byte h of cell start + k is byte width x k + h of the bytes.
+-- Cells of `width` bytes from a start cell on, in a map: byte h of cell start + k is byte width x k + h of
+-- the bytes.
 pub record CellsMean (width : ℕ) (map : List ℕ) (start : ℕ) (bytes after : List ℕ) : Type 0 where
   pub long : length after ≡ length map
-  pub inside : (k h : ℕ) → h < width → width * k + h < length bytes → getD after (width * (start + k) + h) 0 ≡ getD bytes (width * k + h) 0
-  pub outside : (p : ℕ) → (p < width * start) ⊎ (width * start + length bytes ≤ p) → getD after p 0 ≡ getD map p 0
+  pub inside : (k h : ℕ) → h < width → width * k + h < length bytes
+      → getD after (width * (start + k) + h) 0 ≡ getD bytes (width * k + h) 0
+  pub outside : (p : ℕ) → (p < width * start) ⊎ (width * start + length bytes ≤ p)
+      → getD after p 0 ≡ getD map p 0
 
 -- An accepted write of the cursor map or of the colour table, whose data is a start cell and then bytes.
 pub record CursorWrite (s : State) (start : ℕ) (bytes : List ℕ) (after : State) : Type 0 where
@@ -49,12 +61,15 @@ pub record WritesMean : Type 0 where
   pub any : (s : State) (t : List ℕ) → AnyWrite s t (busWrite s t .state)
   pub registers : (s : State) (t : List ℕ) → Sized s → writeReply t ≡ 0 → getD t 1 0 < 0xFE
       → RegisterWrite s (getD t 1 0) (drop 2 t) (busWrite s t .state)
-  pub cursor : (s : State) (start : ℕ) (bytes : List ℕ) → Sized s → writeReply (0x88 ∷ 0xFE ∷ start ∷ bytes) ≡ 0
+  pub cursor : (s : State) (start : ℕ) (bytes : List ℕ) → Sized s
+      → writeReply (0x88 ∷ 0xFE ∷ start ∷ bytes) ≡ 0
       → CursorWrite s start bytes (busWrite s (0x88 ∷ 0xFE ∷ start ∷ bytes) .state)
-  pub colours : (s : State) (start : ℕ) (bytes : List ℕ) → Sized s → writeReply (0x88 ∷ 0xFF ∷ start ∷ bytes) ≡ 0
+  pub colours : (s : State) (start : ℕ) (bytes : List ℕ) → Sized s
+      → writeReply (0x88 ∷ 0xFF ∷ start ∷ bytes) ≡ 0
       → ColourWrite s start bytes (busWrite s (0x88 ∷ 0xFF ∷ start ∷ bytes) .state)
 
--- Figure 8 of document 01: a write of 88h, FDh with one byte is done, with two it is 3, and 88h alone is 1, whatever the state and the bytes.
+-- Figure 8 of document 01: a write of 88h, FDh with one byte is done, with two it is 3, and 88h alone is 1,
+-- whatever the state and the bytes.
 pub record Figure8 : Type 0 where
   pub one : (s : State) (a : ℕ) → busWrite s (0x88 ∷ 0xFD ∷ a ∷ []) .reply ≡ 0
   pub two : (s : State) (a b : ℕ) → busWrite s (0x88 ∷ 0xFD ∷ a ∷ b ∷ []) .reply ≡ 3

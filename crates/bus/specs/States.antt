@@ -1,4 +1,6 @@
--- Document 01, "The part of the chip we use": the state, a fresh one, and the readable bytes that the caller sets; and what a bus write does to it.
+-- Document 01, "The part of the chip we use": the state, a fresh one, and the readable bytes that the caller
+-- sets.
+-- "Bus writes and reads": what a write does to it.
 -- Assumes nothing.
 use mathlib.Core.Bool.{Bool, cond, _||_}
 use mathlib.Core.List.{List}
@@ -10,33 +12,75 @@ use Rattle.chip.specs.Map.{masks}
 use Rattle.reply.specs.Reply.{done, wrongRequest}
 use Rattle.bus.specs.declared.state.State.{State}
 use Rattle.bus.specs.declared.state.Answer.{Answer}
-use Rattle.bus.specs.Writes.{byTarget, writeReply, cursorRun, coloursRun}
+use Rattle.bus.specs.Writes.{byTarget, cursorCell, colourCell, writeReply, cellsRun}
 
 -- a state with one part anew
 abbrev pub withFile : State → List ℕ → State
 withFile s f =
-    record { file = f; colours = s .colours; cursor = s .cursor; status = s .status; chip = s .chip; fifo = s .fifo }
+    record {
+      file = f;
+      colours = s .colours;
+      cursor = s .cursor;
+      status = s .status;
+      chip = s .chip;
+      fifo = s .fifo;
+    }
 
 abbrev pub withColours : State → List ℕ → State
 withColours s t =
-    record { file = s .file; colours = t; cursor = s .cursor; status = s .status; chip = s .chip; fifo = s .fifo }
+    record {
+      file = s .file;
+      colours = t;
+      cursor = s .cursor;
+      status = s .status;
+      chip = s .chip;
+      fifo = s .fifo;
+    }
 
 abbrev pub withCursor : State → List ℕ → State
 withCursor s m =
-    record { file = s .file; colours = s .colours; cursor = m; status = s .status; chip = s .chip; fifo = s .fifo }
+    record {
+      file = s .file;
+      colours = s .colours;
+      cursor = m;
+      status = s .status;
+      chip = s .chip;
+      fifo = s .fifo;
+    }
 
 abbrev pub withStatus : State → ℕ → State
 withStatus s b =
-    record { file = s .file; colours = s .colours; cursor = s .cursor; status = b; chip = s .chip; fifo = s .fifo }
+    record {
+      file = s .file;
+      colours = s .colours;
+      cursor = s .cursor;
+      status = b;
+      chip = s .chip;
+      fifo = s .fifo;
+    }
 
 abbrev pub withFifo : State → ℕ → State
 withFifo s b =
-    record { file = s .file; colours = s .colours; cursor = s .cursor; status = s .status; chip = s .chip; fifo = b }
+    record {
+      file = s .file;
+      colours = s .colours;
+      cursor = s .cursor;
+      status = s .status;
+      chip = s .chip;
+      fifo = b;
+    }
 
 -- all zero but for the chip byte
 unfoldable pub zeroState : ℕ → State
 zeroState chip =
-    record { file = replicate 256 0; colours = replicate 768 0; cursor = replicate 256 0; status = 0; chip = chip; fifo = 0 }
+    record {
+      file = replicate 256 0;
+      colours = replicate 768 0;
+      cursor = replicate 256 0;
+      status = 0;
+      chip = chip;
+      fifo = 0;
+    }
 
 -- 02h is the SAA7102's chip byte and 03h the SAA7103's
 abbrev pub knownChip : ℕ → Bool
@@ -45,17 +89,22 @@ knownChip chip = eqb chip 0x02 || eqb chip 0x03
 -- a fresh state as asked; for another chip byte the number 4 and a state that is all zero
 unfoldable pub freshAnswer : ℕ → Answer
 freshAnswer chip =
-    cond (knownChip chip) (record { state = zeroState chip; reply = done }) (record { state = zeroState 0; reply = wrongRequest })
+    cond (knownChip chip)
+    (record { state = zeroState chip; reply = done })
+    (record { state = zeroState 0; reply = wrongRequest })
 
 -- the state after an accepted write of some bytes at a subaddress
 unfoldable pub stored : State → ℕ → List ℕ → State
 stored s subaddress bytes =
     byTarget subaddress
-    (withCursor s (cursorRun (s .cursor) bytes))
-    (withColours s (coloursRun (s .colours) bytes))
+    (withCursor s (cellsRun cursorCell (s .cursor) bytes))
+    (withColours s (cellsRun colourCell (s .colours) bytes))
     (withFile s (mergeRun masks (s .file) subaddress bytes))
 
 -- a bus write: a refusal leaves the state as it was
 unfoldable pub busWrite : State → List ℕ → Answer
 busWrite s t =
-    record { state = cond (eqb (writeReply t) done) (stored s (getD t 1 0) (drop 2 t)) s; reply = writeReply t }
+    record {
+      state = cond (eqb (writeReply t) done) (stored s (getD t 1 0) (drop 2 t)) s;
+      reply = writeReply t;
+    }

@@ -1,9 +1,9 @@
 // write_reply and read_reply: what is refused of a transaction, before anything is done.
 ghost use mathlib.Core.Path.{_≡_};
 ghost use Prim.Native.Nat.{_<_};
-ghost use lib.ListN.{length, getD};
-ghost use Rattle.bus.specs.Writes.{passes, cursorPasses, coloursPass, registersPass, writeReply};
+ghost use Rattle.bus.specs.Writes.{passes, cellsPass, registersPass, writeReply};
 ghost use Rattle.bus.specs.Reads.{readable, readReply};
+use crate::start::start_of;
 use reply::DONE;
 use reply::NOT_READABLE;
 use reply::PASSES_END;
@@ -23,8 +23,12 @@ pub const CURSOR: u8 = 0xFE;
 
 pub const COLOURS: u8 = 0xFF;
 
-// Cursor bytes, and colour cells.
+// Each has so many cells, of so many bytes.
 const CELLS: usize = 256;
+
+pub const CURSOR_CELL: usize = 1;
+
+pub const COLOUR_CELL: usize = 3;
 
 // The readable places.
 pub const STATUS: u8 = 0x00;
@@ -33,47 +37,32 @@ pub const CHIP: u8 = 0x1C;
 
 pub const FIFO: u8 = 0x80;
 
-// The start cell, the first byte of the data.
-pub fn start_of(bytes: &[u8]) -> usize
-    requires { ⌜ 0 < length (now bytes) ⌝ }
-    ensures { λ r. ⌜ (r ≡ getD (now (bytes .entry)) 0 0) × (r < 256) ⌝ }
-{
-    bytes[0] as usize
-}
-
+// Whether a run passes its end: of registers, of cells, and by the subaddress.
 fn registers_pass(subaddress: u8, bytes: &[u8]) -> bool
     ensures { λ r. ⌜ r ≡ registersPass subaddress (now (bytes .entry)) ⌝ }
 {
     REGISTERS_END < (subaddress as usize) + bytes.len()
 }
 
-fn cursor_passes(bytes: &[u8]) -> bool
-    ensures { λ r. ⌜ r ≡ cursorPasses (now (bytes .entry)) ⌝ }
-{
-    if bytes.len() == 0 {
-        return false;
-    }
-    CELLS < start_of(bytes) + (bytes.len() - 1)
-}
-
-fn colours_pass(bytes: &[u8]) -> bool
-    ensures { λ r. ⌜ r ≡ coloursPass (now (bytes .entry)) ⌝ }
+fn cells_pass(width: usize, bytes: &[u8]) -> bool
+    requires { ⌜ 0 < width ⌝ }
+    ensures { λ r. ⌜ r ≡ cellsPass width (now (bytes .entry)) ⌝ }
 {
     if bytes.len() == 0 {
         return false;
     }
     let count = bytes.len() - 1;
-    (count % 3 != 0) | (CELLS < start_of(bytes) + count / 3)
+    (count % width != 0) | (CELLS < start_of(bytes) + count / width)
 }
 
 fn run_passes(subaddress: u8, bytes: &[u8]) -> bool
     ensures { λ r. ⌜ r ≡ passes subaddress (now (bytes .entry)) ⌝ }
 {
     if subaddress == CURSOR {
-        return cursor_passes(bytes);
+        return cells_pass(CURSOR_CELL, bytes);
     }
     if subaddress == COLOURS {
-        return colours_pass(bytes);
+        return cells_pass(COLOUR_CELL, bytes);
     }
     registers_pass(subaddress, bytes)
 }

@@ -1,15 +1,16 @@
-// State: the file, the colour table, the cursor map and the three readable bytes; fresh, set, written and read.
+// State: the file, the colour table, the cursor map and the three readable bytes.
 ghost use mathlib.Core.Path.{_≡_};
 ghost use Rattle.bus.specs.States.{zeroState, freshAnswer, withStatus, withFifo, busWrite};
 ghost use Rattle.bus.specs.Reads.{byteOf, busRead};
 use crate::decode::CHIP;
+use crate::decode::COLOUR_CELL;
 use crate::decode::COLOURS;
 use crate::decode::CURSOR;
+use crate::decode::CURSOR_CELL;
 use crate::decode::STATUS;
 use crate::decode::read_reply;
 use crate::decode::write_reply;
-use crate::store::write_colours;
-use crate::store::write_cursor;
+use crate::store::write_cells;
 use crate::store::write_registers;
 use reply::DONE;
 use reply::WRONG_REQUEST;
@@ -112,13 +113,13 @@ impl State {
         let bytes = &transaction[2..];
         if subaddress == CURSOR {
             let mut map = self.cursor;
-            write_cursor(&mut map, bytes);
+            write_cells(&mut map, CURSOR_CELL, bytes);
             self.cursor = map;
             return Answer { state: self, reply };
         }
         if subaddress == COLOURS {
             let mut table = self.colours;
-            write_colours(&mut table, bytes);
+            write_cells(&mut table, COLOUR_CELL, bytes);
             self.colours = table;
             return Answer { state: self, reply };
         }

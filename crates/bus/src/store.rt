@@ -1,14 +1,16 @@
-// The leaf writers: data that has been tested goes into a lent file, colour table or cursor map.
-// Each asks what its tests have shown: the lent length, and that the run does not pass its end.
+// The leaf writers: data that has been tested goes into a lent file, or into the cells of a lent
+// cursor map or colour table.
+// Each asks what the tests have shown: the lent length, and that the run does not pass its end.
 ghost use mathlib.Core.Path.{_≡_};
 ghost use mathlib.Core.Bool.{false};
+ghost use Prim.Native.Nat.{_*_, _<_};
 ghost use lib.ListN.{length};
 ghost use Rattle.bits.specs.Run.{mergeRun};
 ghost use Rattle.chip.specs.Map.{masks};
-ghost use Rattle.bus.specs.Writes.{registersPass, cursorPasses, coloursPass, CellsFit, cellsRun, cursorRun, coloursRun};
-use crate::decode::start_of;
-use bits::run::merge_run;
-use bits::run::store_run;
+ghost use Rattle.bus.specs.Writes.{registersPass, cellsPass, cellsRun};
+use crate::start::start_of;
+use bits::merge::merge_run;
+use bits::store::store_run;
 use chip::map::mask_table;
 
 // Registers from a subaddress on: named bits take the new value, the others stay.
@@ -20,28 +22,13 @@ pub fn write_registers(file: &mut [u8], subaddress: u8, bytes: &[u8])
     merge_run(&table, file, subaddress as usize, bytes);
 }
 
-// The first byte is the start cell, and the bytes behind it go there and on, `width` to a cell.
-fn write_cells(map: &mut [u8], width: usize, bytes: &[u8])
-    requires { ⌜ CellsFit width (now map) (now bytes) ⌝ }
+// Cells of the cursor map or of the colour table: the first byte is the start cell, and the bytes behind it
+// go there and on, `width` to a cell.
+pub fn write_cells(map: &mut [u8], width: usize, bytes: &[u8])
+    requires { ⌜ (0 < width) × (length (now map) ≡ 256 * width) × (cellsPass width (now bytes) ≡ false) ⌝ }
     ensures { λ _. ⌜ now (map .exit) ≡ cellsRun width (now (map .entry)) (now (bytes .entry)) ⌝ }
 {
     if 0 < bytes.len() {
         store_run(map, width * start_of(bytes), &bytes[1..]);
     }
-}
-
-// Cursor bytes: a cell is one byte.
-pub fn write_cursor(map: &mut [u8], bytes: &[u8])
-    requires { ⌜ (length (now map) ≡ 256) × (cursorPasses (now bytes) ≡ false) ⌝ }
-    ensures { λ _. ⌜ now (map .exit) ≡ cursorRun (now (map .entry)) (now (bytes .entry)) ⌝ }
-{
-    write_cells(map, 1, bytes);
-}
-
-// Colours: a cell is three bytes, red first.
-pub fn write_colours(table: &mut [u8], bytes: &[u8])
-    requires { ⌜ (length (now table) ≡ 768) × (coloursPass (now bytes) ≡ false) ⌝ }
-    ensures { λ _. ⌜ now (table .exit) ≡ coloursRun (now (table .entry)) (now (bytes .entry)) ⌝ }
-{
-    write_cells(table, 3, bytes);
 }

@@ -13,7 +13,7 @@ use Rattle.bits.specs.Bit.{bit, has}
 use Rattle.bits.proofs.Tests.{tests, or-cases}
 use Rattle.fields.specs.Piece.{Field, holds, owns, width}
 use Rattle.fields.specs.Fields.{pieces, lieAll, apartAll, distinct}
-use Rattle.fields.proofs.Putting.{none-shared}
+use Rattle.fields.proofs.Lists.{field-laws}
 use Rattle.chip.specs.Map.{masks, masksFrom, namedAt, printed}
 use Rattle.chip.specs.Fields.{listedFields, pictureFields, unnamedOf, unnamed, FieldsInMap}
 
@@ -30,16 +30,20 @@ named-one : (b : Bool) (x : ℕ × ℕ) → cond b [] (x ∷ []) ≡ [] → b �
 named-one true x e = refl
 named-one false x e = absurd (cons-ne-nil x [] e)
 
-named-piece : (mask place position n : ℕ) → unnamedOf mask place position n ≡ [] → (i : ℕ) → i < n → has mask (position + i) ≡ true
+named-piece : (mask place position n : ℕ) → unnamedOf mask place position n ≡ [] → (i : ℕ) → i < n
+    → has mask (position + i) ≡ true
 unfolding unnamedOf
 named-piece mask place position zero e i l = absurd (not-suc-le-zero l)
 named-piece mask place position (suc n) e i l =
-    ⊎-elim (λ k. rw k (named-one (has mask (position + n)) (place, position + n) (right-none (unnamedOf mask place position n) _ e)))
+    ⊎-elim (λ k. rw k
+    (named-one (has mask (position + n)) (place, position + n)
+    (right-none (unnamedOf mask place position n) _ e)))
     (λ k. named-piece mask place position n (left-none (unnamedOf mask place position n) _ e) i k)
     (eq-or-lt-of-le (omega arith))
 
 -- a table names every bit of a field in which it leaves none unnamed
-pub named-field : (table : List ℕ) (f : Field) → unnamed table f ≡ [] → (q j : ℕ) → T (owns f q j) → has (getD table q 0) j ≡ true
+pub named-field : (table : List ℕ) (f : Field) → unnamed table f ≡ [] → (q j : ℕ) → T (owns f q j)
+    → has (getD table q 0) j ≡ true
 unfolding unnamed owns
 named-field table [] e q j t = absurd t
 named-field table (p ∷ ps) e q j t =
@@ -48,7 +52,9 @@ named-field table (p ∷ ps) e q j t =
     (λ h.
     let k = simp tests at h in
     let s : p .position + (j - p .position) ≡ j = omega arith in
-    rw (k .0, ← s) (named-piece _ (p .place) (p .position) (p .width) (left-none here (unnamed table ps) e) (j - p .position) (omega arith)))
+    rw (k .0, ← s)
+    (named-piece _ (p .place) (p .position) (p .width) (left-none here (unnamed table ps) e)
+    (j - p .position) (omega arith)))
     (named-field table ps (right-none here (unnamed table ps) e) q j)
     (or-cases (holds p q j) (owns ps q j) t)
 
@@ -73,7 +79,7 @@ fields-in-map =
     record {
       lie = fields-lie;
       apart = fields-apart;
-      shared = none-shared (pieces pictureFields) fields-apart;
+      shared = field-laws .shared (pieces pictureFields) fields-apart;
       named = named-field masks (pieces pictureFields) all-named;
       differs = one-differs;
     }

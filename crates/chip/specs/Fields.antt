@@ -1,4 +1,5 @@
--- The fields of a picture: document 01, "From picture to fields", table of fields; and what holds of them in the printed bit map.
+-- The fields of a picture: document 01, "From picture to fields", table of fields; and what holds of them in
+-- the printed bit map.
 -- Assumes nothing.
 use mathlib.Core.Path.{_≡_}
 use mathlib.Core.Bool.{cond, true}
@@ -51,7 +52,8 @@ listedFields = before-HLEN ++ (listed-HLEN ∷ after-HLEN)
 unfoldable pub pictureFields : List Field
 pictureFields = before-HLEN ++ (printed-HLEN ∷ after-HLEN)
 
--- the bits of a field, as place and bit, that a table of masks does not name: of n bits of a place, and of all pieces
+-- the bits of a field, as place and bit, that a table of masks does not name: of n bits of a place, and of
+-- all pieces
 unfoldable pub unnamedOf : ℕ → ℕ → ℕ → ℕ → List (ℕ × ℕ)
 unnamedOf mask place position zero = []
 unnamedOf mask place position (suc n) =
@@ -59,7 +61,8 @@ unnamedOf mask place position (suc n) =
 
 unfoldable pub unnamed : List ℕ → Field → List (ℕ × ℕ)
 unnamed table [] = []
-unnamed table (p ∷ ps) = unnamedOf (getD table (p .place) 0) (p .place) (p .position) (p .width) ++ unnamed table ps
+unnamed table (p ∷ ps) =
+    unnamedOf (getD table (p .place) 0) (p .place) (p .position) (p .width) ++ unnamed table ps
 
 -- Document 01: no two fields share a bit, and all lie in named bits.
 pub record FieldsInMap : Type 0 where

@@ -1,7 +1,8 @@
 -- The bit map of the SAA7102 and SAA7103: source document 000, section 7.19, Table 31, row by row as printed.
--- A row has a place, or a first and a last one, and its named bits, D7 first: 1 for a bit with a name, 0 for an unused one, which is `-` in
--- the names beside it. By document 01, "The part of the chip we use", the read-only places 00h, 1Ch and 80h, and FEh and FFh, hold no named bit
--- of the file, whatever is printed there: their names stand in brackets.
+-- A row has a place, or a first and a last one, and its named bits, D7 first: 1 for a bit with a name, 0 for
+-- an unused one, which is `-` in the names beside it. By document 01, "The part of the chip we use", the
+-- read-only places 00h, 1Ch and 80h, and FEh and FFh, hold no named bit of the file, whatever is printed
+-- there: their names stand in brackets.
 -- Assumes nothing.
 use mathlib.Core.Bool.{cond, _&&_}
 use mathlib.Core.List.{List, [], _∷_}

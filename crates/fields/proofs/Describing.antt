@@ -1,4 +1,5 @@
--- A field described by numbers, three a piece: the next piece, the end, and what a turn of a loop over them knows.
+-- A field described by numbers, three a piece: the next piece, the end, and what a turn of a loop over them
+-- knows.
 -- Assumes nothing.
 use mathlib.Core.Path.{_≡_, refl}
 use mathlib.Core.List.{List, [], _∷_}
@@ -17,10 +18,18 @@ use Rattle.fields.specs.Fields.{lies, lieAll}
 use Rattle.fields.specs.Described.{pieceAt, piecesOf, Lying, Described}
 use Rattle.fields.proofs.Pieces.{get-piece-lt}
 
-pub next-piece : (ns : List ℕ) (i : ℕ) → i + 3 ≤ length ns → piecesOf (drop i ns) ≡ pieceAt ns i ∷ piecesOf (drop (i + 3) ns)
+pub next-piece : (ns : List ℕ) (i : ℕ) → i + 3 ≤ length ns → piecesOf (drop i ns)
+    ≡ pieceAt ns i ∷ piecesOf (drop (i + 3) ns)
 unfolding piecesOf
 next-piece ns i l =
-    rw (add-three i, add-two i, add-one i, drop-cons ns i 0 (omega arith), drop-cons ns (suc i) 0 (omega arith), drop-cons ns (suc (suc i)) 0 (omega arith))
+    rw (
+      add-three i,
+      add-two i,
+      add-one i,
+      drop-cons ns i 0 (omega arith),
+      drop-cons ns (suc i) 0 (omega arith),
+      drop-cons ns (suc (suc i)) 0 (omega arith),
+    )
 
 short : (ns : List ℕ) → length ns < 3 → piecesOf ns ≡ []
 unfolding piecesOf
@@ -33,7 +42,8 @@ pub last-piece : (ns : List ℕ) (i : ℕ) → length ns < i + 3 → piecesOf (d
 last-piece ns i l = short (drop i ns) (rw length-drop (omega arith))
 
 -- the next piece lies in the file, and so do the others
-pub next-lies : (file ns : List ℕ) (n i : ℕ) → n ≡ length file → i + 3 ≤ length ns → T (lieAll n (piecesOf (drop i ns)))
+pub next-lies : (file ns : List ℕ) (n i : ℕ) → n ≡ length file → i + 3 ≤ length ns
+    → T (lieAll n (piecesOf (drop i ns)))
     → Lying file ns i × T (lieAll n (piecesOf (drop (i + 3) ns))) × (0 < getD ns (i + 2) 0)
 unfolding lieAll
 next-lies file ns n i e l t =
@@ -83,20 +93,25 @@ turn file ns value shift i l r =
     }
 
 pub reading-starts : (file ns : List ℕ) → Described file ns → Reading file ns 0 0 0
-reading-starts file ns d = record { lie = d .lie; narrow = omega (arith, d .narrow); small = omega arith; whole = omega arith }
+reading-starts file ns d =
+    record { lie = d .lie; narrow = omega (arith, d .narrow); small = omega arith; whole = omega arith }
 
-pub reading-ends : (file ns : List ℕ) (value shift i : ℕ) → length ns < i + 3 → Reading file ns value shift i → value ≡ get file (piecesOf ns)
+pub reading-ends : (file ns : List ℕ) (value shift i : ℕ) → length ns < i + 3 → Reading file ns value shift i
+    → value ≡ get file (piecesOf ns)
 unfolding get
 reading-ends file ns value shift i l r =
-    let e : 0 * 2 ^ shift + value ≡ get file (piecesOf ns) = rw (last-piece ns i l) at (r .whole) in omega arith
+    let e : 0 * 2 ^ shift + value ≡ get file (piecesOf ns) =
+    rw (last-piece ns i l) at (r .whole) in omega arith
 
 -- ---- writing: the first piece written and then the rest is the whole
 
 pub put-next : (file ns : List ℕ) (rest i : ℕ) → i + 3 ≤ length ns
-    → put (putPiece file (pieceAt ns i) rest) (piecesOf (drop (i + 3) ns)) (rest / 2 ^ getD ns (i + 2) 0) ≡ put file (piecesOf (drop i ns)) rest
+    → put (putPiece file (pieceAt ns i) rest) (piecesOf (drop (i + 3) ns)) (rest / 2 ^ getD ns (i + 2) 0)
+    ≡ put file (piecesOf (drop i ns)) rest
 unfolding put
 put-next file ns rest i l = rw (next-piece ns i l)
 
-pub put-last : (file ns : List ℕ) (rest i : ℕ) → length ns < i + 3 → file ≡ put file (piecesOf (drop i ns)) rest
+pub put-last : (file ns : List ℕ) (rest i : ℕ) → length ns < i + 3 → file
+    ≡ put file (piecesOf (drop i ns)) rest
 unfolding put
 put-last file ns rest i l = rw (last-piece ns i l)

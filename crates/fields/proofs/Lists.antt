@@ -12,8 +12,9 @@ use Rattle.bits.specs.Bit.{bit}
 use Rattle.bits.proofs.Tests.{or-left, or-right, and-iff, or-cases, is-false}
 use Rattle.fields.specs.Piece.{Piece, Field, holds, owns, put, width}
 use Rattle.fields.specs.Fields.{pieces, putAll, getAll, lies, lieAll, apart, apartAll, distinct, fitAll}
-use Rattle.fields.specs.Laws.{Bytes, Disjoint, AllMeans, Unchanged}
+use Rattle.fields.specs.Laws.{Bytes, Disjoint, AllMeans, FieldLaws}
 use Rattle.fields.proofs.Putting.{apart-all, length-put, put-outside, get-cong, get-put, put-get}
+use Rattle.fields.proofs.Putting.{put-means, none-shared}
 
 -- ---- the tests of a joined list are those of its parts
 
@@ -43,10 +44,12 @@ distinct-append (p ∷ f) g t =
     let r = distinct-append f g (h .1) in (
       and-iff (apartAll p f) (distinct f) .1 (a .0, r .0),
       r .1,
-      λ q j o u. ⊎-elim (λ k. apart-all p g (a .1) q j k u) (λ k. r .2 q j k u) (or-cases (holds p q j) (owns f q j) o),
+      λ q j o u. ⊎-elim (λ k. apart-all p g (a .1) q j k u) (λ k. r .2 q j k u)
+          (or-cases (holds p q j) (owns f q j) o),
     )
 
-owns-append : (f g : Field) (q j : ℕ) → owns (f ++ g) q j ≡ false → (owns f q j ≡ false) × (owns g q j ≡ false)
+owns-append : (f g : Field) (q j : ℕ) → owns (f ++ g) q j ≡ false → (owns f q j ≡ false)
+    × (owns g q j ≡ false)
 unfolding owns
 owns-append [] g q j e = (refl, e)
 owns-append (p ∷ f) g q j e =
@@ -62,7 +65,8 @@ length-put-all file (f ∷ fs) [] = refl
 length-put-all file (f ∷ fs) (v ∷ vs) = length-put-all (put file f v) fs vs ∙ length-put file f v
 
 module _ (n : ℕ) where
-  all-outside : (file : List ℕ) (fs : List Field) (vs : List ℕ) → n ≡ length file → T (lieAll n (pieces fs)) → (q j : ℕ) → j < 8 → owns (pieces fs) q j ≡ false
+  all-outside : (file : List ℕ) (fs : List Field) (vs : List ℕ) → n ≡ length file → T (lieAll n (pieces fs))
+      → (q j : ℕ) → j < 8 → owns (pieces fs) q j ≡ false
       → bit (getD (putAll file fs vs) q 0) j ≡ bit (getD file q 0) j
   unfolding putAll pieces
   all-outside file [] vs e t q j l o = refl
@@ -70,9 +74,11 @@ module _ (n : ℕ) where
   all-outside file (f ∷ fs) (v ∷ vs) e t q j l o =
       let k = lie-append n f (pieces fs) t in
       let u = owns-append f (pieces fs) q j o in
-      all-outside (put file f v) fs vs (e ∙ sym (length-put file f v)) (k .1) q j l (u .1) ∙ put-outside n file f v e (k .0) q j l (u .0)
+      all-outside (put file f v) fs vs (e ∙ sym (length-put file f v)) (k .1) q j l (u .1)
+      ∙ put-outside n file f v e (k .0) q j l (u .0)
 
-  all-reads : (file : List ℕ) (fs : List Field) (vs : List ℕ) → n ≡ length file → T (lieAll n (pieces fs)) → T (distinct (pieces fs)) → T (fitAll fs vs)
+  all-reads : (file : List ℕ) (fs : List Field) (vs : List ℕ) → n ≡ length file → T (lieAll n (pieces fs))
+      → T (distinct (pieces fs)) → T (fitAll fs vs)
       → getAll (putAll file fs vs) fs ≡ vs
   unfolding putAll getAll pieces fitAll
   all-reads file [] [] e t d w = refl
@@ -89,7 +95,8 @@ module _ (n : ℕ) where
       ∙ get-put n file f v e (k .0) (a .0) ∙ mod-eq-of-lt (ltb→lt v (2 ^ width f) (h .0)) in
       rw (own, all-reads file′ fs vs e′ (k .1) (a .1) (h .1))
 
-  all-unchanged : (file : List ℕ) (fs : List Field) → Bytes file → n ≡ length file → T (lieAll n (pieces fs)) → putAll file fs (getAll file fs) ≡ file
+  all-unchanged : (file : List ℕ) (fs : List Field) → Bytes file → n ≡ length file → T (lieAll n (pieces fs))
+      → putAll file fs (getAll file fs) ≡ file
   unfolding putAll getAll pieces
   all-unchanged file [] b e t = refl
   all-unchanged file (f ∷ fs) b e t =
@@ -98,8 +105,8 @@ module _ (n : ℕ) where
 
 -- ---- the laws
 
-pub all-means : (file : List ℕ) (fs : List Field) (vs : List ℕ) → T (lieAll (length file) (pieces fs)) → T (distinct (pieces fs)) → T (fitAll fs vs)
-    → AllMeans file fs vs (putAll file fs vs)
+all-means : (file : List ℕ) (fs : List Field) (vs : List ℕ) → T (lieAll (length file) (pieces fs))
+    → T (distinct (pieces fs)) → T (fitAll fs vs) → AllMeans file fs vs (putAll file fs vs)
 all-means file fs vs t d w =
     record {
       long = length-put-all file fs vs;
@@ -107,6 +114,12 @@ all-means file fs vs t d w =
       outside = all-outside (length file) file fs vs refl t;
     }
 
-pub unchanged : (file : List ℕ) → Bytes file → Unchanged file
-unchanged file b =
-    record { one = λ f t. put-get (length file) file f b refl t; all = λ fs t. all-unchanged (length file) file fs b refl t }
+pub field-laws : FieldLaws
+field-laws =
+    record {
+      one = put-means;
+      all = all-means;
+      same = λ file f b t. put-get (length file) file f b refl t;
+      sameAll = λ file fs b t. all-unchanged (length file) file fs b refl t;
+      shared = none-shared;
+    }

@@ -21,16 +21,19 @@ use Rattle.fields.specs.Fields.{apart}
 
 -- ---- bits of a byte
 
-taken-bits : (byte position width v : ℕ) → Bits (λ j. cond (within position width j) (bit v (j - position)) (bit byte j))
+taken-bits : (byte position width v : ℕ)
+    → Bits (λ j. cond (within position width j) (bit v (j - position)) (bit byte j))
 taken-bits byte position width v j =
-    cond-lt (within position width j) (bit v (j - position)) (bit byte j) (bit-lt v (j - position)) (bit-lt byte j)
+    cond-lt (within position width j) (bit v (j - position)) (bit byte j) (bit-lt v (j - position))
+    (bit-lt byte j)
 
 pub with-bits-lt : (byte position width v : ℕ) → withBits byte position width v < 256
 unfolding withBits
 with-bits-lt byte position width v = number-lt 8 _ (taken-bits byte position width v)
 
 pub with-bits-bit : (byte position width v j : ℕ) → j < 8
-    → bit (withBits byte position width v) j ≡ cond (within position width j) (bit v (j - position)) (bit byte j)
+    → bit (withBits byte position width v) j
+    ≡ cond (within position width j) (bit v (j - position)) (bit byte j)
 unfolding withBits
 with-bits-bit byte position width v j l = bit-number 8 _ (taken-bits byte position width v) j l
 
@@ -42,19 +45,29 @@ length-put-piece file p v = length-set file (p .place) _
 
 -- a put changes the bits that the piece has, and no other of any place
 pub put-piece-bit : (file : List ℕ) (p : Piece) (v : ℕ) → p .place < length file → (q j : ℕ) → j < 8
-    → bit (getD (putPiece file p v) q 0) j ≡ cond (holds p q j) (bit v (j - p .position)) (bit (getD file q 0) j)
+    → bit (getD (putPiece file p v) q 0) j
+    ≡ cond (holds p q j) (bit v (j - p .position)) (bit (getD file q 0) j)
 unfolding putPiece
 put-piece-bit file p v l q j k = at-place (ℕ-discrete q (p .place))
   where
-    at-place : Dec (q ≡ p .place) → bit (getD (set file (p .place) (withBits (getD file (p .place) 0) (p .position) (p .width) v)) q 0) j
+    at-place : Dec (q ≡ p .place)
+        → bit (getD (set file (p .place)
+        (withBits (getD file (p .place) 0) (p .position) (p .width) v)) q 0) j
         ≡ cond (holds p q j) (bit v (j - p .position)) (bit (getD file q 0) j)
     at-place (yes e) =
-        rw (e, getD-set-same file (p .place) (withBits (getD file (p .place) 0) (p .position) (p .width) v) 0 l, eq-eqb (p .place) (p .place) refl)
+        rw (
+          e,
+          getD-set-same file (p .place)
+              (withBits (getD file (p .place) 0) (p .position) (p .width) v) 0 l,
+          eq-eqb (p .place) (p .place) refl,
+        )
         (with-bits-bit (getD file (p .place) 0) (p .position) (p .width) v j k)
     at-place (no n) = rw (getD-set-other file (p .place) q _ 0 n, ne-eqb q (p .place) n)
 
 -- a get depends on the piece's own bits alone
-pub get-piece-cong : (a b : List ℕ) (p : Piece) → ((i : ℕ) → i < p .width → bit (getD a (p .place) 0) (p .position + i) ≡ bit (getD b (p .place) 0) (p .position + i))
+pub get-piece-cong : (a b : List ℕ) (p : Piece)
+    → ((i : ℕ) → i < p .width → bit (getD a (p .place) 0) (p .position + i)
+    ≡ bit (getD b (p .place) 0) (p .position + i))
     → getPiece a p ≡ getPiece b p
 unfolding getPiece bitsAt
 get-piece-cong a b p h = number-cong (p .width) _ _ h
@@ -63,9 +76,11 @@ pub get-piece-lt : (file : List ℕ) (p : Piece) → getPiece file p < 2 ^ p .wi
 unfolding getPiece bitsAt
 get-piece-lt file p = number-lt (p .width) _ (λ i. bit-lt (getD file (p .place) 0) (p .position + i))
 
-pub get-piece-bit : (file : List ℕ) (p : Piece) (i : ℕ) → i < p .width → bit (getPiece file p) i ≡ bit (getD file (p .place) 0) (p .position + i)
+pub get-piece-bit : (file : List ℕ) (p : Piece) (i : ℕ) → i < p .width → bit (getPiece file p) i
+    ≡ bit (getD file (p .place) 0) (p .position + i)
 unfolding getPiece bitsAt
-get-piece-bit file p i l = bit-number (p .width) _ (λ k. bit-lt (getD file (p .place) 0) (p .position + k)) i l
+get-piece-bit file p i l =
+    bit-number (p .width) _ (λ k. bit-lt (getD file (p .place) 0) (p .position + k)) i l
 
 -- the piece has its own bits
 pub holds-own : (p : Piece) (i : ℕ) → i < p .width → T (holds p (p .place) (p .position + i))
@@ -77,18 +92,25 @@ unfolding getPiece bitsAt
 get-put-piece file p v l k =
     number-cong (p .width) _ (bit v)
     (λ i h. put-piece-bit file p v l (p .place) (p .position + i) (omega arith)
-    ∙ rw (is-true (holds p (p .place) (p .position + i)) (holds-own p i h), add-sub-cancel-left (p .position) i))
+    ∙ rw (
+      is-true (holds p (p .place) (p .position + i)) (holds-own p i h),
+      add-sub-cancel-left (p .position) i,
+    ))
     ∙ number-bit (p .width) v
 
 -- what is in a piece, put back, changes nothing, whatever stands above it in v
 pub put-get-piece : (file : List ℕ) (p : Piece) (v : ℕ) → ((q : ℕ) → getD file q 0 < 256)
-    → ((i : ℕ) → i < p .width → bit v i ≡ bit (getD file (p .place) 0) (p .position + i)) → putPiece file p v ≡ file
+    → ((i : ℕ) → i < p .width → bit v i ≡ bit (getD file (p .place) 0) (p .position + i)) → putPiece file p v
+    ≡ file
 unfolding putPiece
 put-get-piece file p v bytes h =
-    ap (set file (p .place)) (bit-ext 8 _ _ (with-bits-lt _ _ _ v) (bytes (p .place)) (λ j k. with-bits-bit _ (p .position) (p .width) v j k ∙ kept j _ refl))
+    ap (set file (p .place))
+    (bit-ext 8 _ _ (with-bits-lt _ _ _ v) (bytes (p .place))
+    (λ j k. with-bits-bit _ (p .position) (p .width) v j k ∙ kept j _ refl))
     ∙ set-getD file (p .place) 0
   where
-    kept : (j : ℕ) (t : Bool) → within (p .position) (p .width) j ≡ t → cond t (bit v (j - p .position)) (bit (getD file (p .place) 0) j) ≡ bit (getD file (p .place) 0) j
+    kept : (j : ℕ) (t : Bool) → within (p .position) (p .width) j ≡ t
+        → cond t (bit v (j - p .position)) (bit (getD file (p .place) 0) j) ≡ bit (getD file (p .place) 0) j
     kept j true e =
         let t = simp tests at (from-true (within (p .position) (p .width) j) e) in
         let k : p .position + (j - p .position) ≡ j = omega arith in

@@ -12,21 +12,25 @@ use lib.ListN.{length, getD}
 use lib.Pow.{mod-pow-add, high}
 use Rattle.bits.specs.Bit.{bit}
 use Rattle.bits.proofs.Digits.{bit-under}
-use Rattle.bits.proofs.Tests.{or-left, or-right, or-in, tests, and-iff, or-cases, is-true, is-false, true-or-false}
+use Rattle.bits.proofs.Tests.{or-left, or-right, or-in, tests, and-iff, or-cases, is-true, is-false}
+use Rattle.bits.proofs.Tests.{true-or-false}
 use Rattle.fields.specs.Piece.{Piece, Field, holds, owns, getPiece, putPiece, get, put, width}
 use Rattle.fields.specs.Fields.{lies, lieAll, apart, apartAll, distinct}
 use Rattle.fields.specs.Laws.{Bytes, PutMeans, NoneShared, uses}
-use Rattle.fields.proofs.Pieces.{length-put-piece, put-piece-bit, get-piece-cong, get-piece-lt, get-piece-bit, holds-own, get-put-piece, put-get-piece, apart-sound}
+use Rattle.fields.proofs.Pieces.{length-put-piece, put-piece-bit, get-piece-cong, get-piece-lt}
+use Rattle.fields.proofs.Pieces.{get-piece-bit, holds-own, get-put-piece, put-get-piece, apart-sound}
 
 -- ---- tests
 
 -- the pieces of a tail own no bit of a piece that is apart from them all
-pub apart-all : (p : Piece) (qs : Field) → T (apartAll p qs) → (r j : ℕ) → T (holds p r j) → T (owns qs r j) → ⊥
+pub apart-all : (p : Piece) (qs : Field) → T (apartAll p qs) → (r j : ℕ) → T (holds p r j) → T (owns qs r j)
+    → ⊥
 unfolding apartAll owns
 apart-all p [] t r j a b = b
 apart-all p (q ∷ qs) t r j a b =
     let h = and-iff (apart p q) (apartAll p qs) .0 t in
-    ⊎-elim (apart-sound p q (h .0) r j a) (apart-all p qs (h .1) r j a) (or-cases (holds q r j) (owns qs r j) b)
+    ⊎-elim (apart-sound p q (h .0) r j a) (apart-all p qs (h .1) r j a)
+    (or-cases (holds q r j) (owns qs r j) b)
 
 -- ---- bits
 
@@ -36,18 +40,21 @@ length-put file [] v = refl
 length-put file (p ∷ ps) v = length-put (putPiece file p v) ps _ ∙ length-put-piece file p v
 
 module _ (n : ℕ) where
-  pub put-outside : (file : List ℕ) (f : Field) (v : ℕ) → n ≡ length file → T (lieAll n f) → (q j : ℕ) → j < 8 → owns f q j ≡ false
+  pub put-outside : (file : List ℕ) (f : Field) (v : ℕ) → n ≡ length file → T (lieAll n f) → (q j : ℕ)
+      → j < 8 → owns f q j ≡ false
       → bit (getD (put file f v) q 0) j ≡ bit (getD file q 0) j
   unfolding put lieAll owns
   put-outside file [] v e t q j l o = refl
   put-outside file (p ∷ ps) v e t q j l o =
       let h = and-iff (lies n p) (lieAll n ps) .0 t in
       let k = simp tests at (h .0) in
-      put-outside (putPiece file p v) ps (v / 2 ^ p .width) (e ∙ sym (length-put-piece file p v)) (h .1) q j l (or-right (holds p q j) (owns ps q j) o)
+      put-outside (putPiece file p v) ps (v / 2 ^ p .width) (e ∙ sym (length-put-piece file p v))
+      (h .1) q j l (or-right (holds p q j) (owns ps q j) o)
       ∙ put-piece-bit file p v (omega arith) q j l ∙ rw (or-left (holds p q j) (owns ps q j) o)
 
   -- a get depends on the field's own bits alone
-  pub get-cong : (a b : List ℕ) (f : Field) → T (lieAll n f) → ((q j : ℕ) → j < 8 → T (owns f q j) → bit (getD a q 0) j ≡ bit (getD b q 0) j)
+  pub get-cong : (a b : List ℕ) (f : Field) → T (lieAll n f)
+      → ((q j : ℕ) → j < 8 → T (owns f q j) → bit (getD a q 0) j ≡ bit (getD b q 0) j)
       → get a f ≡ get b f
   unfolding get lieAll owns
   get-cong a b [] t h = refl
@@ -56,11 +63,15 @@ module _ (n : ℕ) where
       let s = simp tests at (k .0) in
       rw (
         get-cong a b ps (k .1) (λ q j l o. h q j l (or-in (holds p q j) (owns ps q j) (inr o))),
-        get-piece-cong a b p (λ i l. h (p .place) (p .position + i) (omega arith) (or-in (holds p (p .place) (p .position + i)) (owns ps (p .place) (p .position + i)) (inl (holds-own p i l)))),
+        get-piece-cong a b p
+            (λ i l. h (p .place) (p .position + i) (omega arith)
+            (or-in (holds p (p .place) (p .position + i)) (owns ps (p .place) (p .position + i))
+            (inl (holds-own p i l)))),
       )
 
   -- the field gives what fits it of the number that was put
-  pub get-put : (file : List ℕ) (f : Field) (v : ℕ) → n ≡ length file → T (lieAll n f) → T (distinct f) → get (put file f v) f ≡ v % 2 ^ width f
+  pub get-put : (file : List ℕ) (f : Field) (v : ℕ) → n ≡ length file → T (lieAll n f) → T (distinct f)
+      → get (put file f v) f ≡ v % 2 ^ width f
   unfolding get put lieAll distinct width
   get-put file [] v e t d = omega arith
   get-put file (p ∷ ps) v e t d =
@@ -71,11 +82,18 @@ module _ (n : ℕ) where
       let e′ : n ≡ length file′ = e ∙ sym (length-put-piece file p v) in
       let own = get-piece-cong (put file′ ps (v / 2 ^ p .width)) file′ p
       (λ i l. put-outside file′ ps (v / 2 ^ p .width) e′ (k .1) (p .place) (p .position + i) (omega arith)
-      (is-false (owns ps (p .place) (p .position + i)) (apart-all p ps (a .0) (p .place) (p .position + i) (holds-own p i l)))) in
-      rw (get-put file′ ps (v / 2 ^ p .width) e′ (k .1) (a .1), own, get-put-piece file p v (omega arith) (omega arith), mod-pow-add v (width ps) (p .width))
+      (is-false (owns ps (p .place) (p .position + i))
+      (apart-all p ps (a .0) (p .place) (p .position + i) (holds-own p i l)))) in
+      rw (
+        get-put file′ ps (v / 2 ^ p .width) e′ (k .1) (a .1),
+        own,
+        get-put-piece file p v (omega arith) (omega arith),
+        mod-pow-add v (width ps) (p .width),
+      )
 
   -- what a field gives, put back, changes nothing
-  pub put-get : (file : List ℕ) (f : Field) → Bytes file → n ≡ length file → T (lieAll n f) → put file f (get file f) ≡ file
+  pub put-get : (file : List ℕ) (f : Field) → Bytes file → n ≡ length file → T (lieAll n f)
+      → put file f (get file f) ≡ file
   unfolding get put lieAll
   put-get file [] b e t = refl
   put-get file (p ∷ ps) b e t =
@@ -84,14 +102,16 @@ module _ (n : ℕ) where
       let g = get file ps in
       let lt = get-piece-lt file p in
       rw (
-        put-get-piece file p (g * 2 ^ p .width + getPiece file p) b (λ i l. bit-under g (p .width) _ i l ∙ get-piece-bit file p i l),
+        put-get-piece file p (g * 2 ^ p .width + getPiece file p) b
+            (λ i l. bit-under g (p .width) _ i l ∙ get-piece-bit file p i l),
         high g (p .width) lt,
       )
       (put-get file ps b e (k .1))
 
 -- ---- the law of one field
 
-pub put-means : (file : List ℕ) (f : Field) (v : ℕ) → T (lieAll (length file) f) → T (distinct f) → PutMeans file f v (put file f v)
+pub put-means : (file : List ℕ) (f : Field) (v : ℕ) → T (lieAll (length file) f) → T (distinct f)
+    → PutMeans file f v (put file f v)
 put-means file f v t d =
     record {
       long = length-put file f v;
@@ -99,7 +119,8 @@ put-means file f v t d =
       outside = put-outside (length file) file f v refl t;
       others = λ g tg h.
           get-cong (length file) (put file f v) file g tg
-          (λ q j l o. put-outside (length file) file f v refl t q j l (is-false (owns f q j) (λ u. h q j u o)));
+          (λ q j l o. put-outside (length file) file f v refl t q j l
+          (is-false (owns f q j) (λ u. h q j u o)));
     }
 
 -- ---- no bit of any place is in two pieces of a field that passes the test

@@ -11,7 +11,8 @@ use lib.Dec.{eqb}
 use lib.Pow.{shl-exact, shl-lt, ones-lt, pow-mono}
 use Rattle.bits.specs.Bit.{bit, has}
 use Rattle.bits.specs.Merge.{merge}
-use Rattle.bits.proofs.Digits.{bit-ext, bit-shr, bit-mod, bit-high, bit-shl-low, bit-shl, bit-ones, number-bit, number-cong}
+use Rattle.bits.proofs.Digits.{bit-ext, bit-shr, bit-mod, bit-high, bit-shl-low, bit-shl, bit-ones}
+use Rattle.bits.proofs.Digits.{number-bit, number-cong}
 use Rattle.bits.proofs.Merging.{merge-bit, merge-lt}
 use Rattle.bits.proofs.Tests.{tests, from-true}
 use Rattle.fields.specs.Piece.{within, bitsAt, withBits}
@@ -33,12 +34,15 @@ ones-bit p w j = from (decLt j p) (decLt j (p + w))
     from (yes l) d = rw (lt-leb p j l) (bit-shl-low (2 ^ w - 1) p j l)
     from (no l) (yes k) =
         let e : p + (j - p) ≡ j = omega arith in
-        rw (le-leb p j (omega arith), lt-ltb j (p + w) k) (ap (bit ((2 ^ w - 1) * 2 ^ p)) (sym e) ∙ bit-shl (2 ^ w - 1) p (j - p) ∙ bit-ones w (j - p) (omega arith))
+        rw (le-leb p j (omega arith), lt-ltb j (p + w) k)
+        (ap (bit ((2 ^ w - 1) * 2 ^ p)) (sym e) ∙ bit-shl (2 ^ w - 1) p (j - p)
+        ∙ bit-ones w (j - p) (omega arith))
     from (no l) (no k) =
         let e : p + (j - p) ≡ j = omega arith in
         let m : 2 ^ w ≤ 2 ^ (j - p) = pow-mono (omega arith) in
         rw (le-leb p j (omega arith), le-ltb j (p + w) (omega arith))
-        (ap (bit ((2 ^ w - 1) * 2 ^ p)) (sym e) ∙ bit-shl (2 ^ w - 1) p (j - p) ∙ bit-high (2 ^ w - 1) (j - p) (lt-of-lt-of-le (ones-lt w) m))
+        (ap (bit ((2 ^ w - 1) * 2 ^ p)) (sym e) ∙ bit-shl (2 ^ w - 1) p (j - p)
+        ∙ bit-high (2 ^ w - 1) (j - p) (lt-of-lt-of-le (ones-lt w) m))
 
 chosen : (t : Bool) → eqb (cond t 1 0) 1 ≡ t
 chosen true = refl
@@ -59,11 +63,16 @@ module _ (p w : ℕ) (fits : p + w ≤ 8) where
       bit-mod 8 _ j l ∙ bit-mod 32 _ j (omega arith)
       ∙ ap (bit (v % 256 * 2 ^ p)) (sym e) ∙ bit-shl (v % 256) p (j - p) ∙ bit-mod 8 v (j - p) (omega arith)
 
-  pub merge-piece : (byte v : ℕ) → merge ((2 ^ w - 1) * 2 ^ p % 4294967296 % 256) byte (v % 256 * 2 ^ p % 4294967296 % 256) ≡ withBits byte p w v
+  pub merge-piece : (byte v : ℕ)
+      → merge ((2 ^ w - 1) * 2 ^ p % 4294967296 % 256) byte (v % 256 * 2 ^ p % 4294967296 % 256)
+      ≡ withBits byte p w v
   merge-piece byte v =
       bit-ext 8 _ _ (merge-lt _ byte _) (with-bits-lt byte p w v)
-      (λ j l. merge-bit _ byte _ j l ∙ rw (mask-has j) (same j l (within p w j) refl) ∙ sym (with-bits-bit byte p w v j l))
+      (λ j l. merge-bit _ byte _ j l ∙ rw (mask-has j) (same j l (within p w j) refl)
+      ∙ sym (with-bits-bit byte p w v j l))
     where
-      same : (j : ℕ) → j < 8 → (t : Bool) → within p w j ≡ t → cond t (bit (v % 256 * 2 ^ p % 4294967296 % 256) j) (bit byte j) ≡ cond t (bit v (j - p)) (bit byte j)
+      same : (j : ℕ) → j < 8 → (t : Bool) → within p w j ≡ t
+          → cond t (bit (v % 256 * 2 ^ p % 4294967296 % 256) j) (bit byte j)
+          ≡ cond t (bit v (j - p)) (bit byte j)
       same j l true e = let k = simp tests at (from-true (within p w j) e) in moved-bit v j l (omega arith)
       same j l false e = refl

@@ -1,4 +1,5 @@
--- What holds of a list of fields that share no bit, over every position and width (document 01: "Field splitting and joining is proved once").
+-- Lists of fields, and the tests by which a table of fields is seen to share no bit (document 01, "From
+-- picture to fields").
 -- Assumes nothing.
 use mathlib.Core.Bool.{Bool, true, false, not, _&&_, _||_}
 use mathlib.Core.List.{List, [], _∷_, _++_, map}
@@ -32,7 +33,9 @@ lieAll n (p ∷ ps) = lies n p && lieAll n ps
 
 -- two pieces share no bit: other places, or one ends where the other begins or before
 abbrev pub apart : Piece → Piece → Bool
-apart p q = not (eqb (p .place) (q .place)) || (leb (p .position + p .width) (q .position) || leb (q .position + q .width) (p .position))
+apart p q =
+    not (eqb (p .place) (q .place))
+    || (leb (p .position + p .width) (q .position) || leb (q .position + q .width) (p .position))
 
 unfoldable pub apartAll : Piece → Field → Bool
 apartAll p [] = true

@@ -1,4 +1,5 @@
--- A bit field of a register file: one or more pieces, each a run of bits of one place (document 01, table of fields).
+-- A bit field of a register file: one or more pieces, each a run of bits of one place (document 01, "From
+-- picture to fields", table of fields).
 -- Assumes nothing.
 use mathlib.Core.Bool.{Bool, false, cond, _&&_, _||_}
 use mathlib.Core.List.{List, [], _∷_}
@@ -39,7 +40,8 @@ bitsAt byte position width = number width (λ i. bit byte (position + i))
 
 -- the byte with the low bits of v in them: bit j is bit j - position of v within them, and stays elsewhere
 unfoldable pub withBits : ℕ → ℕ → ℕ → ℕ → ℕ
-withBits byte position width v = number 8 (λ j. cond (within position width j) (bit v (j - position)) (bit byte j))
+withBits byte position width v =
+    number 8 (λ j. cond (within position width j) (bit v (j - position)) (bit byte j))
 
 -- the number that a piece holds, and the file with the low bits of v in a piece
 unfoldable pub getPiece : List ℕ → Piece → ℕ

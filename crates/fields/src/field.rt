@@ -1,5 +1,5 @@
-// get_field and put_field: a field of a lent file. Its pieces come as three numbers each, place, position and width,
-// the lowest bits first. Both are leaves for other crates: the pieces must lie in the file.
+// get_field and put_field: a field of a lent file. Its pieces come as three numbers each, place, position and
+// width, the lowest bits first. Both are leaves for other crates: the pieces must lie in the file.
 ghost use mathlib.Core.Path.{_≡_};
 ghost use Prim.Native.Nat.{_<_};
 ghost use lib.ListN.{length, getD};

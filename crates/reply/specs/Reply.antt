@@ -1,8 +1,10 @@
 -- Document 01, "Reply numbers": the number of each answer, and the choice among several.
 -- Assumes nothing.
-use mathlib.Core.Bool.{Bool, cond}
+use mathlib.Core.Path.{_≡_}
+use mathlib.Core.Bool.{Bool, true, false, cond, _&&_, _||_}
 use mathlib.Core.List.{List, [], _∷_}
-use Prim.Native.Nat.{ℕ}
+use Prim.Native.Nat.{ℕ, _≤_}
+use lib.Dec.{T, eqb, ltb}
 
 abbrev pub done : ℕ
 done = 0
@@ -27,7 +29,30 @@ wrongRequest = 4
 abbrev pub notReadable : ℕ
 notReadable = 12
 
--- Numbers, the lowest first, each with the test of whether it applies: the lowest that applies, and 0 where none does.
+-- Numbers, the lowest first, each with the test of whether it applies: the lowest that applies, and 0 where
+-- none does.
 unfoldable pub lowest : List (ℕ × Bool) → ℕ
 lowest [] = done
 lowest (n ∷ ns) = cond (n .1) (n .0) (lowest ns)
+
+-- whether a number applies, and whether the numbers rise, all above b
+unfoldable pub applies : List (ℕ × Bool) → ℕ → Bool
+applies [] n = false
+applies (m ∷ ms) n = (eqb n (m .0) && m .1) || applies ms n
+
+unfoldable pub rising : ℕ → List (ℕ × Bool) → Bool
+rising b [] = true
+rising b (m ∷ ms) = ltb b (m .0) && rising (m .0) ms
+
+-- What the number given means.
+pub record LowestMeans (ns : List (ℕ × Bool)) : Type 0 where
+  -- a number that is given applies
+  pub given : (lowest ns ≡ done → ⊥) → T (applies ns (lowest ns))
+  -- none that applies is lower
+  pub least : (n : ℕ) → T (applies ns n) → lowest ns ≤ n
+  -- and 0 is given only where none applies
+  pub none : lowest ns ≡ done → (n : ℕ) → T (applies ns n) → ⊥
+
+-- It means that for every list of rising numbers.
+abbrev pub LowestLaw : Type 0
+LowestLaw = (b : ℕ) (ns : List (ℕ × Bool)) → T (rising b ns) → LowestMeans ns

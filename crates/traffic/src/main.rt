@@ -1,4 +1,4 @@
-// Bus traffic with a fresh SAA7103: each transaction is printed with its reply, and then what the state holds.
+// Bus traffic with a fresh SAA7103: each transaction with its reply, and what the state then holds.
 use bus::cursor::cursor_row;
 use bus::state::State;
 use libc::STDOUT_FILENO;

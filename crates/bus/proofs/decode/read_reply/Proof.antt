@@ -4,27 +4,32 @@ use mathlib.Core.Path.{sym, _∙_}
 use borrow.Author.Needs.{needs}
 use borrow.Author.Tests.{eq-eqb, ne-eqb}
 use Rattle.reply.specs.Reply.{lowest}
-use Rattle.bus.specs.Reads.{readReply}
+use Rattle.bus.specs.Reads.{readTests, readReply}
 use Rattle.bus.proofs.decode.read_reply.Statement.{statement}
 use Rattle.bus.proofs.decode.read_reply.Tie as tie
 
 returns : tie.Need-returns
-unfolding readReply lowest
+unfolding readReply readTests lowest
 returns c = simp (ne-eqb _ _ (c .if1 .taken))
 
 shared-slice-read-if2 : tie.Need-shared-slice-read-if2
 shared-slice-read-if2 c = search needs
 
 returns-2 : tie.Need-returns-2
-unfolding readReply lowest
+unfolding readReply readTests lowest
 returns-2 c = simp (eq-eqb _ _ (c .before .before .if1 .left), ne-eqb _ _ (c .if2 .taken))
 
 shared-slice-read-if3 : tie.Need-shared-slice-read-if3
 shared-slice-read-if3 c = search needs
 
 returns-3 : tie.Need-returns-3
-unfolding readReply lowest
-returns-3 c = simp (eq-eqb _ _ (c .before .before .before .before .if1 .left), eq-eqb _ _ (c .before .before .if2 .left), ne-eqb _ _ (c .if3 .taken))
+unfolding readReply readTests lowest
+returns-3 c =
+    simp (
+      eq-eqb _ _ (c .before .before .before .before .if1 .left),
+      eq-eqb _ _ (c .before .before .if2 .left),
+      ne-eqb _ _ (c .if3 .taken),
+    )
 
 shared-slice-read-is-readable : tie.Need-shared-slice-read-is-readable
 shared-slice-read-is-readable c = search needs
@@ -33,12 +38,24 @@ is-readable-requires : tie.Need-is-readable-requires
 is-readable-requires c κs = search needs
 
 returns-4 : tie.Need-returns-4
-unfolding readReply lowest
-returns-4 c = simp (eq-eqb _ _ (c .before .before .before .before .before .before .before .if1 .left), eq-eqb _ _ (c .before .before .before .before .before .if2 .left), eq-eqb _ _ (c .before .before .before .if3 .left), sym (c .before .is-readable .ensures) ∙ c .if4 .taken)
+unfolding readReply readTests lowest
+returns-4 c =
+    simp (
+      eq-eqb _ _ (c .before .before .before .before .before .before .before .if1 .left),
+      eq-eqb _ _ (c .before .before .before .before .before .if2 .left),
+      eq-eqb _ _ (c .before .before .before .if3 .left),
+      sym (c .before .is-readable .ensures) ∙ c .if4 .taken,
+    )
 
 returns-5 : tie.Need-returns-5
-unfolding readReply lowest
-returns-5 c = simp (eq-eqb _ _ (c .before .before .before .before .before .before .before .if1 .left), eq-eqb _ _ (c .before .before .before .before .before .if2 .left), eq-eqb _ _ (c .before .before .before .if3 .left), sym (c .before .is-readable .ensures) ∙ c .if4 .left)
+unfolding readReply readTests lowest
+returns-5 c =
+    simp (
+      eq-eqb _ _ (c .before .before .before .before .before .before .before .if1 .left),
+      eq-eqb _ _ (c .before .before .before .before .before .if2 .left),
+      eq-eqb _ _ (c .before .before .before .if3 .left),
+      sym (c .before .is-readable .ensures) ∙ c .if4 .left,
+    )
 
 pub read-reply-spec : {M : Type 1} → statement M
 read-reply-spec =

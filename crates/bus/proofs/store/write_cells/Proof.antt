@@ -1,20 +1,31 @@
 -- `bus::store::write_cells` meets its contract: no data, or a start cell and the bytes behind it.
 -- Assumes nothing.
 use mathlib.Core.Path.{_≡_, sym}
+use Prim.Native.Nat.{_+_, _-_, _*_, _≤_}
 use native.Mathlib.Omega.{arith}
 use borrow.Author.Needs.{needs}
-use lib.ListN.{length, length-drop}
+use lib.ListN.{length, getD, length-drop}
 use Rattle.bus.specs.Writes.{cellsRun}
+use Rattle.bus.proofs.Accepted.{cells-fit}
 use Rattle.bus.proofs.Starts.{no-start, some-start, tail-part}
 use Rattle.bus.proofs.store.write_cells.Statement.{statement}
 use Rattle.bus.proofs.store.write_cells.Tie as tie
+
+-- the run lies in the map
+fit : (c : tie.Then1)
+    → (let a = c .before .before .before .args in
+    a .width * getD (a .bytes .now) 0 0 + (length (a .bytes .now) - 1) ≤ length (a .map .now))
+fit c =
+    let p = c .before .before .before .pre in
+    let a = c .before .before .before .args in
+    cells-fit (a .width) (a .map .now) (a .bytes .now) (p .0) (p .1) (p .2) (c .if1 .taken)
 
 start-of-requires : tie.Need-start-of-requires
 start-of-requires c κs = search needs
 
 mul-store-run : tie.Need-mul-store-run
 mul-store-run c =
-    let f = c .before .before .before .before .before .pre (c .before .before .if1 .taken) in
+    let f = fit (c .before .before) in
     rw (c .start-of .ensures .0) (omega arith)
 
 sub-store-run : tie.Need-sub-store-run
@@ -28,8 +39,7 @@ part-store-run-end c = search needs
 
 store-run-requires : tie.Need-store-run-requires
 store-run-requires c κs =
-    let f = c .before .before .before .before .before .before .pre (c .before .before .before .if1 .taken) in
-    rw (c .before .start-of .ensures .0, tail-part, length-drop) f
+    rw (c .before .start-of .ensures .0, tail-part, length-drop) (fit (c .before .before .before))
 
 same-length : tie.Need-same-length
 same-length c = search needs
@@ -38,7 +48,12 @@ returns : tie.Need-returns
 unfolding cellsRun
 returns c =
     let a = c .before .before .before .before .before .before .before .before .before .args in
-    rw (c .before .before .store-run .ensures, c .before .before .before .before .start-of .ensures .0, tail-part) (sym (some-start _ _ (a .bytes .now) (c .before .before .before .before .before .before .if1 .taken)))
+    rw (
+      c .before .before .store-run .ensures,
+      c .before .before .before .before .start-of .ensures .0,
+      tail-part,
+    ) (sym
+    (some-start _ _ (a .bytes .now) (c .before .before .before .before .before .before .if1 .taken)))
 
 returns-2 : tie.Need-returns-2
 unfolding cellsRun

@@ -26,7 +26,8 @@ same-length c = search needs
 
 returns : tie.Need-returns
 returns c =
-    rw (← c .before .before .before .before .before .mask-table .ensures) (c .before .before .merge-run .ensures)
+    rw (← c .before .before .before .before .before .mask-table .ensures)
+    (c .before .before .merge-run .ensures)
 
 pub write-registers-spec : {M : Type 1} → statement M
 write-registers-spec =

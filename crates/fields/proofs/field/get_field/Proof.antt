@@ -1,4 +1,5 @@
--- `fields::field::get_field` meets its contract: what has been read and what is left make the number. The measure is what is left of the numbers.
+-- `fields::field::get_field` meets its contract: what has been read and what is left make the number. The
+-- measure is what is left of the numbers.
 -- Assumes nothing.
 use Prim.Native.Nat.{_+_, _-_, _≤_}
 use native.Mathlib.Omega.{arith}
@@ -10,8 +11,12 @@ use Rattle.fields.proofs.Describing.{Reading, Turn, turn, reading-start
 use Rattle.fields.proofs.field.get_field.Statement.{statement}
 use Rattle.fields.proofs.field.get_field.Tie as tie
 
+-- measure is what is left of the numbers.
+-- Assumes nothing.
+
 abbrev Inv-loop : tie.InvT-loop
-Inv-loop file numbers value₀ shift₀ i₀ value shift i = (i ≤ length numbers) × Reading file numbers value shift i
+Inv-loop file numbers value₀ shift₀ i₀ value shift i = (i ≤ length numbers)
+    × Reading file numbers value shift i
 
 abbrev μ-loop : tie.MeasureT-loop
 μ-loop file numbers value₀ shift₀ i₀ value shift i = length numbers - i
@@ -20,7 +25,8 @@ abbrev μ-loop : tie.MeasureT-loop
 turned : (c : tie.In-loop Inv-loop μ-loop)
     → (let a = c .before .before .before .before .args in
     let l = c .before .loop in
-    Turn (a .file .now) (a .numbers .now) (l .value) (l .shift) (l .i) (getPiece (a .file .now) (pieceAt (a .numbers .now) (l .i))) (getD (a .numbers .now) (l .i + 2) 0))
+    Turn (a .file .now) (a .numbers .now) (l .value) (l .shift) (l .i)
+    (getPiece (a .file .now) (pieceAt (a .numbers .now) (l .i))) (getD (a .numbers .now) (l .i + 2) 0))
 turned c =
     let a = c .before .before .before .before .args in
     let l = c .before .loop in
@@ -57,13 +63,16 @@ loop-less : tie.Need-loop-less Inv-loop μ-loop
 loop-less c = search needs
 
 loop-again : tie.Need-loop-again Inv-loop μ-loop
-loop-again c = let t = turned (c .before .before) in (search needs, rw (c .before .piece-at .ensures, t .exact, c .number-at .ensures) (t .next))
+loop-again c = let t =
+    turned (c .before .before) in
+    (search needs, rw (c .before .piece-at .ensures, t .exact, c .number-at .ensures) (t .next))
 
 returns : tie.Need-returns Inv-loop μ-loop
 returns c =
     let a = c .before .before .before .before .args in
     let l = c .before .loop in
-    reading-ends (a .file .now) (a .numbers .now) (l .value) (l .shift) (l .i) (c .loop-test .left) (l .inv .1)
+    reading-ends (a .file .now) (a .numbers .now) (l .value) (l .shift) (l .i) (c .loop-test .left)
+    (l .inv .1)
 
 pub get-field-spec : {M : Type 1} → statement M
 get-field-spec =

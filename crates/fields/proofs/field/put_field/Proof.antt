@@ -1,4 +1,5 @@
--- `fields::field::put_field` meets its contract: what has been written and what is left make the whole. The measure is what is left of the numbers.
+-- `fields::field::put_field` meets its contract: what has been written and what is left make the whole. The
+-- measure is what is left of the numbers.
 -- Assumes nothing.
 use mathlib.Core.Path.{_≡_, refl, sym, _∙_}
 use Prim.Native.Nat.{_+_, _-_, _<_, _≤_}
@@ -14,9 +15,13 @@ use Rattle.fields.proofs.Pieces.{length-put-piece}
 use Rattle.fields.proofs.field.put_field.Statement.{statement}
 use Rattle.fields.proofs.field.put_field.Tie as tie
 
+-- measure is what is left of the numbers.
+-- Assumes nothing.
+
 abbrev Inv-loop : tie.InvT-loop
 Inv-loop file₀ numbers value rest₀ i₀ file rest i =
-    (i ≤ length numbers) × (length file ≡ length file₀) × T (lieAll (length file₀) (piecesOf (drop i numbers)))
+    (i ≤ length numbers) × (length file ≡ length file₀)
+    × T (lieAll (length file₀) (piecesOf (drop i numbers)))
     × (put file (piecesOf (drop i numbers)) rest ≡ put file₀ (piecesOf numbers) value)
 
 abbrev μ-loop : tie.MeasureT-loop
@@ -26,10 +31,13 @@ abbrev μ-loop : tie.MeasureT-loop
 left : (c : tie.In-loop Inv-loop μ-loop)
     → (let a = c .before .before .before .before .args in
     let l = c .before .loop in
-    Lying (l .file) (a .numbers .now) (l .i) × T (lieAll (length (a .file .now)) (piecesOf (drop (l .i + 3) (a .numbers .now)))) × (0 < getD (a .numbers .now) (l .i + 2) 0))
+    Lying (l .file) (a .numbers .now) (l .i)
+    × T (lieAll (length (a .file .now)) (piecesOf (drop (l .i + 3) (a .numbers .now))))
+    × (0 < getD (a .numbers .now) (l .i + 2) 0))
 left c =
     let l = c .before .loop in
-    next-lies (l .file) (c .before .before .before .before .args .numbers .now) _ (l .i) (sym (l .inv .1)) (c .loop-test .taken) (l .inv .2)
+    next-lies (l .file) (c .before .before .before .before .args .numbers .now) _ (l .i) (sym (l .inv .1))
+    (c .loop-test .taken) (l .inv .2)
 
 loop-holds : tie.Need-loop-holds Inv-loop μ-loop
 loop-holds c = (search needs, refl, c .before .before .pre .lie, refl)
@@ -66,7 +74,8 @@ loop-again c =
       search needs,
       rw e (length-put-piece (l .file) _ (l .rest) ∙ l .inv .1),
       left t .1,
-      rw (e, c .number-at .ensures) (put-next (l .file) (a .numbers .now) (l .rest) (l .i) (t .loop-test .taken) ∙ l .inv .3),
+      rw (e, c .number-at .ensures)
+          (put-next (l .file) (a .numbers .now) (l .rest) (l .i) (t .loop-test .taken) ∙ l .inv .3),
     )
 
 same-length : tie.Need-same-length Inv-loop μ-loop
@@ -75,7 +84,8 @@ same-length c = search needs
 returns : tie.Need-returns Inv-loop μ-loop
 returns c =
     let l = c .before .loop in
-    put-last (l .file) (c .before .before .before .before .args .numbers .now) (l .rest) (l .i) (c .loop-test .left) ∙ l .inv .3
+    put-last (l .file) (c .before .before .before .before .args .numbers .now) (l .rest) (l .i)
+    (c .loop-test .left) ∙ l .inv .3
 
 pub put-field-spec : {M : Type 1} → statement M
 put-field-spec =

@@ -16,7 +16,11 @@ ones-requires c κs = search needs
 returns : tie.Need-returns
 returns c =
     let a = c .before .args in
-    rw (c .ones .ensures, and-mask (a .byte / 2 ^ a .position) (a .width), bits-at (a .byte) (a .position) (a .width))
+    rw (
+      c .ones .ensures,
+      and-mask (a .byte / 2 ^ a .position) (a .width),
+      bits-at (a .byte) (a .position) (a .width),
+    )
 
 pub get-piece-spec : {M : Type 1} → statement M
 get-piece-spec = tie.close (tie.spec shr-result ones-requires returns)

@@ -26,7 +26,8 @@ merge-byte-requires c κs = search needs
 returns : tie.Need-returns
 returns c =
     let a = c .before .before .args in
-    rw (c .merge-byte .ensures, c .before .ones .ensures) (merge-piece (a .position) (a .width) (c .before .before .pre) (a .byte) (a .value))
+    rw (c .merge-byte .ensures, c .before .ones .ensures)
+    (merge-piece (a .position) (a .width) (c .before .before .pre) (a .byte) (a .value))
 
 pub put-piece-spec : {M : Type 1} → statement M
 put-piece-spec =

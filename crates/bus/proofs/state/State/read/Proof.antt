@@ -16,7 +16,11 @@ returns : tie.Need-returns
 unfolding busRead
 returns c =
     let e = c .before .read-reply .ensures in
-    rw (e, ne-eqb (readReply (c .before .before .before .args .transaction .now)) 0 (λ h. c .if1 .taken (e ∙ h)))
+    rw (
+      e,
+      ne-eqb (readReply (c .before .before .before .args .transaction .now)) 0
+          (λ h. c .if1 .taken (e ∙ h)),
+    )
 
 shared-slice-read-place : tie.Need-shared-slice-read-place
 shared-slice-read-place c =
@@ -31,7 +35,8 @@ returns-2 : tie.Need-returns-2
 unfolding busRead
 returns-2 c =
     let t = c .before .before .before .before .before .args .transaction .now in
-    let e : readReply t ≡ 0 = sym (c .before .before .before .read-reply .ensures) ∙ c .before .before .if1 .left in
+    let e : readReply t ≡ 0 = sym (c .before .before .before .read-reply .ensures)
+    ∙ c .before .before .if1 .left in
     rw (c .readable-byte .ensures, c .before .before .if1 .left, e)
 
 pub read-spec : {M : Type 1} → statement M
