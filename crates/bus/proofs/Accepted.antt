@@ -2,18 +2,30 @@
 -- Assumes nothing.
 use mathlib.Core.Path.{_≡_, sym, _∙_}
 use mathlib.Core.Bool.{false, not, _||_}
-use mathlib.Core.List.{List, []}
+use mathlib.Core.List.{List}
+use mathlib.Core.Logic.{inl}
 use Prim.Native.Nat.{ℕ, _+_, _-_, _*_, _/_, _%_, _<_, _≤_}
 use native.Mathlib.Nat.{div-add-mod, mul-le-mul-left}
 use native.Mathlib.Omega.{arith}
 use borrow.Author.Tests.{ltb-false, eqb-true, not-false, eq-eqb, ne-eqb}
 use lib.Dec.{eqb, ltb}
 use lib.ListN.{length, getD, drop, length-drop}
-use Rattle.bits.proofs.Tests.{or-left, or-right}
-use Rattle.reply.proofs.Lowest.{none-applies}
+use Rattle.bits.proofs.Tests.{or-left, or-right, or-in, is-false}
+use Rattle.reply.specs.Reply.{applies, rising, LowestMeans}
+use Rattle.reply.proofs.Lowest.{lowest-means}
 use Rattle.bus.specs.Writes.{registersPass, cellsPass, passes, writeTests, writeReply}
 use Rattle.bus.specs.Reads.{readTests, readReply}
 use Rattle.bus.proofs.Starts.{some-start}
+
+-- ---- the numbers of both lists rise, so the reply is the lowest that applies
+
+pub write-lowest : (t : List ℕ) → LowestMeans (writeTests t)
+unfolding writeTests rising
+write-lowest t = lowest-means 0 (writeTests t) tt
+
+pub read-lowest : (t : List ℕ) → LowestMeans (readTests t)
+unfolding readTests rising
+read-lowest t = lowest-means 0 (readTests t) tt
 
 -- ---- writes
 
@@ -22,12 +34,15 @@ pub record Accepted (t : List ℕ) : Type 0 where
   pub fits : passes (getD t 1 0) (drop 2 t) ≡ false
 
 pub accepted : (t : List ℕ) → writeReply t ≡ 0 → Accepted t
-unfolding writeReply writeTests
+unfolding writeReply writeTests applies
 accepted t e =
-    let a = none-applies 1 (ltb (length t) 2) _ (omega arith) e in
-    let b = none-applies 2 (not (eqb (getD t 0 0) 0x88)) _ (omega arith) (a .1) in
-    let d = none-applies 3 (passes (getD t 1 0) (drop 2 t)) [] (omega arith) (b .1) in
-    record { long = ltb-false (length t) 2 (a .0); fits = d .0 }
+    let none = write-lowest t .none e in
+    let short = ltb (length t) 2 in
+    let over = passes (getD t 1 0) (drop 2 t) in
+    record {
+      long = ltb-false (length t) 2 (is-false short (λ u. none 1 (or-in short false (inl u))));
+      fits = is-false over (λ u. none 3 (or-in over false (inl u)));
+    }
 
 module _ (subaddress : ℕ) (bytes : List ℕ) (e : passes subaddress bytes ≡ false) where
   pub cursor-fits : subaddress ≡ 0xFE → cellsPass 1 bytes ≡ false
@@ -51,12 +66,14 @@ unfolding registersPass
 registers-end subaddress bytes e = ltb-false 254 (subaddress + length bytes) e
 
 -- whole cells that do not pass the end lie in a map of 256 cells
-pub cells-fit : (width : ℕ) (map bytes : List ℕ) → 0 < width → length map ≡ 256 * width → cellsPass width bytes ≡ false
+pub cells-fit : (width : ℕ) (map bytes : List ℕ) → 0 < width → length map ≡ 256 * width
+    → cellsPass width bytes ≡ false
     → 0 < length bytes → width * getD bytes 0 0 + (length bytes - 1) ≤ length map
 unfolding cellsPass
 cells-fit width map bytes w l e h =
     let n = length (drop 1 bytes) in
-    let f : (not (eqb (n % width) 0) || ltb 256 (getD bytes 0 0 + n / width)) ≡ false = sym (some-start _ _ bytes h) ∙ e in
+    let f : (not (eqb (n % width) 0) || ltb 256 (getD bytes 0 0 + n / width)) ≡ false =
+    sym (some-start _ _ bytes h) ∙ e in
     let a = eqb-true (n % width) 0 (not-false (eqb (n % width) 0) (or-left (not (eqb (n % width) 0)) _ f)) in
     let b = ltb-false 256 (getD bytes 0 0 + n / width) (or-right (not (eqb (n % width) 0)) _ f) in
     let d = length-drop 1 bytes in
@@ -67,7 +84,8 @@ cells-fit width map bytes w l e h =
 -- ---- reads
 
 pub read-long : (t : List ℕ) → readReply t ≡ 0 → length t ≡ 3
-unfolding readReply readTests
+unfolding readReply readTests applies
 read-long t e =
-    eqb-true (length t) 3
-    (not-false (eqb (length t) 3) (none-applies 1 (not (eqb (length t) 3)) _ (omega arith) e .0))
+    let other = not (eqb (length t) 3) in
+    eqb-true (length t) 3 (not-false (eqb (length t) 3)
+    (is-false other (λ u. read-lowest t .none e 1 (or-in other false (inl u)))))

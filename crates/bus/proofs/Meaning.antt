@@ -10,16 +10,14 @@ use lib.Dec.{eqb}
 use lib.ListN.{getD, drop}
 use Rattle.bits.proofs.Runs.{run-law}
 use Rattle.chip.specs.Map.{masks}
-use Rattle.reply.specs.Reply.{lowest, rising}
-use Rattle.reply.proofs.Lowest.{lowest-means}
+use Rattle.reply.specs.Reply.{lowest}
 use Rattle.bus.specs.declared.state.State.{State}
 use Rattle.bus.specs.Writes.{fromStart, registersPass, passes, writeTests, writeReply, cellsRun}
-use Rattle.bus.specs.Reads.{readTests}
 use Rattle.bus.specs.States.{stored, busWrite}
 use Rattle.bus.specs.Meaning.{AnyWrite, RegisterWrite, CursorWrite, ColourWrite, Sized, WritesMean}
 use Rattle.bus.specs.Meaning.{RepliesMean, Figure8}
-use Rattle.bus.proofs.Accepted.{accepted, registers-fit, registers-end, cursor-fits, colours-fit}
-use Rattle.bus.proofs.Accepted.{cells-fit}
+use Rattle.bus.proofs.Accepted.{write-lowest, read-lowest, accepted, registers-fit, registers-end}
+use Rattle.bus.proofs.Accepted.{cursor-fits, colours-fit, cells-fit}
 use Rattle.bus.proofs.Cells.{cells-mean}
 
 -- a readable byte, or any part that no target of a write has, is the same in each of the three states and in
@@ -81,10 +79,8 @@ writes-mean =
     record { any = any-write; registers = register-write; cursor = cursor-write; colours = colour-write }
 
 pub replies-mean : RepliesMean
-unfolding writeTests readTests rising
-replies-mean =
-    record { write = λ t. lowest-means 0 (writeTests t) tt; read = λ t. lowest-means 0 (readTests t) tt }
+replies-mean = record { write = write-lowest; read = read-lowest }
 
 pub figure-8 : Figure8
 unfolding busWrite writeReply writeTests lowest passes registersPass
-figure-8 = record { one = λ s a. refl; two = λ s a b. refl; none = λ s. refl }
+figure-8 = record { one = λ s a. refl; two = λ s a b. refl; alone = λ s a. refl }

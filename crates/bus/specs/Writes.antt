@@ -46,11 +46,15 @@ colourCell = 3
 -- cells of `width` bytes: the bytes must make whole cells, and start + cells must be at most 256
 unfoldable pub cellsPass : ℕ → List ℕ → Bool
 cellsPass width =
-    fromStart false (λ start bytes. not (eqb (length bytes % width) 0) || ltb 256 (start + length bytes / width))
+    fromStart false
+    (λ start bytes. not (eqb (length bytes % width) 0) || ltb 256 (start + length bytes / width))
 
 unfoldable pub passes : ℕ → List ℕ → Bool
 passes subaddress bytes =
-    byTarget subaddress (cellsPass cursorCell bytes) (cellsPass colourCell bytes) (registersPass subaddress bytes)
+    byTarget subaddress
+    (cellsPass cursorCell bytes)
+    (cellsPass colourCell bytes)
+    (registersPass subaddress bytes)
 
 -- what may be refused of a write, and its number
 unfoldable pub writeTests : List ℕ → List (ℕ × Bool)

@@ -1,6 +1,6 @@
 -- The lowest number that applies.
 -- Assumes nothing.
-use mathlib.Core.Path.{_≡_, refl}
+use mathlib.Core.Path.{refl}
 use mathlib.Core.Bool.{Bool, true, false, _&&_}
 use mathlib.Core.List.{List, [], _∷_}
 use mathlib.Core.Logic.{inl, inr, ⊎-elim}
@@ -9,13 +9,6 @@ use native.Mathlib.Omega.{arith}
 use lib.Dec.{T, eqb, ltb, ltb→lt, eqb→eq, eqb-refl}
 use Rattle.bits.proofs.Tests.{and-iff, or-cases, or-in}
 use Rattle.reply.specs.Reply.{lowest, applies, rising, LowestMeans, LowestLaw}
-
--- where it is 0, no test of the list holds
-pub none-applies : (n : ℕ) (t : Bool) (ns : List (ℕ × Bool)) → 0 < n → lowest ((n, t) ∷ ns) ≡ 0 → (t ≡ false)
-    × (lowest ns ≡ 0)
-unfolding lowest
-none-applies n true ns h e = absurd (omega arith)
-none-applies n false ns h e = (refl, e)
 
 -- every number that applies is above what the numbers rise from
 above : (b : ℕ) (ns : List (ℕ × Bool)) → T (rising b ns) → (n : ℕ) → T (applies ns n) → b < n
