@@ -19,7 +19,7 @@ pub cells-mean : (width : ℕ) (map : List ℕ) (start : ℕ) (bytes : List ℕ)
 cells-mean width map start bytes f =
     record {
       long = length-sets map (width * start) bytes;
-      inside = λ k h l m.
+      inside = λ k h m.
           let e : width * (start + k) + h ≡ width * start + (width * k + h) = omega arith in
           rw e (rule-inside sets plain (λ l i. refl) (λ l i v vs. refl) map (width * start) bytes f
           (width * k + h) m);

@@ -1,19 +1,22 @@
 -- What bus writes mean, from their definitions.
 -- Assumes nothing.
-use mathlib.Core.Path.{_≡_, refl}
+use mathlib.Core.Path.{_≡_, refl, _∙_}
 use mathlib.Core.Bool.{Bool, true, false, cond}
-use mathlib.Core.List.{List, _∷_}
-use Prim.Native.Nat.{ℕ, _<_}
+use mathlib.Core.List.{List, [], _∷_}
+use Prim.Native.Nat.{ℕ, _*_, _<_}
 use native.Mathlib.Omega.{arith}
 use borrow.Author.Tests.{ne-eqb}
 use lib.Dec.{eqb}
-use lib.ListN.{getD, drop}
-use Rattle.bits.proofs.Runs.{run-law}
+use lib.ListN.{length, getD, drop, length-replicate}
+use lib.Seq.{length-sets}
+use Rattle.bits.specs.Run.{mergeRun}
+use Rattle.bits.proofs.Runs.{run-law, rule-long, masked, run-none, run-more}
 use Rattle.chip.specs.Map.{masks}
 use Rattle.reply.specs.Reply.{lowest}
 use Rattle.bus.specs.declared.state.State.{State}
+use Rattle.bus.specs.declared.state.Answer.{Answer}
 use Rattle.bus.specs.Writes.{fromStart, registersPass, passes, writeTests, writeReply, cellsRun}
-use Rattle.bus.specs.States.{stored, busWrite}
+use Rattle.bus.specs.States.{zeroState, knownChip, freshAnswer, stored, busWrite}
 use Rattle.bus.specs.Meaning.{AnyWrite, RegisterWrite, CursorWrite, ColourWrite, Sized, WritesMean}
 use Rattle.bus.specs.Meaning.{RepliesMean, Figure8}
 use Rattle.bus.proofs.Accepted.{write-lowest, read-lowest, accepted, registers-fit, registers-end}
@@ -74,9 +77,56 @@ colour-write s start bytes z e =
     (colours-fit 0xFF (start ∷ bytes) (accepted t e .fits) (λ h. omega arith) refl) (omega arith) in
     rw e (record { cells = cells-mean 3 (s .colours) start bytes (omega arith); rest = refl })
 
+-- ---- lengths
+
+sized-zeros : (chip : ℕ) → Sized (zeroState chip)
+unfolding zeroState
+sized-zeros chip =
+    record {
+      file = length-replicate {A = ℕ} 256 0;
+      colours = length-replicate {A = ℕ} 768 0;
+      cursor = length-replicate {A = ℕ} 256 0;
+    }
+
+sized-fresh : (t : Bool) (a b : Answer) → Sized (a .state) → Sized (b .state) → Sized (cond t a b .state)
+sized-fresh true a b sa sb = sa
+sized-fresh false a b sa sb = sb
+
+fresh-sized : (chip : ℕ) → Sized (freshAnswer chip .state)
+unfolding freshAnswer
+fresh-sized chip = sized-fresh (knownChip chip) _ _ (sized-zeros chip) (sized-zeros 0)
+
+cells-long : (width : ℕ) (map bytes : List ℕ) → length (cellsRun width map bytes) ≡ length map
+unfolding cellsRun fromStart
+cells-long width map [] = refl
+cells-long width map (start ∷ bytes) = length-sets map (width * start) bytes
+
+write-sized : (s : State) (t : List ℕ) → Sized s → Sized (busWrite s t .state)
+unfolding busWrite stored
+write-sized s t z =
+    let r = eqb (writeReply t) 0 in
+    let u = eqb (getD t 1 0) 0xFE in
+    let v = eqb (getD t 1 0) 0xFF in
+    let long = rule-long (mergeRun masks) (masked masks) (run-none masks) (run-more masks) in
+    record {
+      file = kept (λ x. length (x .file)) s _ _ _ r u v refl refl
+          (long (s .file) (getD t 1 0) (drop 2 t)) ∙ z .file;
+      colours = kept (λ x. length (x .colours)) s _ _ _ r u v refl
+          (cells-long 3 (s .colours) (drop 2 t)) refl ∙ z .colours;
+      cursor = kept (λ x. length (x .cursor)) s _ _ _ r u v
+          (cells-long 1 (s .cursor) (drop 2 t)) refl refl ∙ z .cursor;
+    }
+
 pub writes-mean : WritesMean
 writes-mean =
-    record { any = any-write; registers = register-write; cursor = cursor-write; colours = colour-write }
+    record {
+      fresh = fresh-sized;
+      sized = write-sized;
+      any = any-write;
+      registers = register-write;
+      cursor = cursor-write;
+      colours = colour-write;
+    }
 
 pub replies-mean : RepliesMean
 replies-mean = record { write = write-lowest; read = read-lowest }

@@ -12,7 +12,7 @@ use Rattle.reply.specs.Reply.{LowestMeans}
 use Rattle.bus.specs.declared.state.State.{State}
 use Rattle.bus.specs.Writes.{writeTests, writeReply}
 use Rattle.bus.specs.Reads.{readTests}
-use Rattle.bus.specs.States.{withFile, withColours, withCursor, busWrite}
+use Rattle.bus.specs.States.{withFile, withColours, withCursor, freshAnswer, busWrite}
 
 -- The reply is the lowest number that applies.
 pub record RepliesMean : Type 0 where
@@ -36,7 +36,7 @@ pub record RegisterWrite (s : State) (subaddress : ℕ) (bytes : List ℕ) (afte
 -- the bytes.
 pub record CellsMean (width : ℕ) (map : List ℕ) (start : ℕ) (bytes after : List ℕ) : Type 0 where
   pub long : length after ≡ length map
-  pub inside : (k h : ℕ) → h < width → width * k + h < length bytes
+  pub inside : (k h : ℕ) → width * k + h < length bytes
       → getD after (width * (start + k) + h) 0 ≡ getD bytes (width * k + h) 0
   pub outside : (p : ℕ) → (p < width * start) ⊎ (width * start + length bytes ≤ p)
       → getD after p 0 ≡ getD map p 0
@@ -58,6 +58,9 @@ pub record Sized (s : State) : Type 0 where
 
 -- All of it, for every state and every transaction.
 pub record WritesMean : Type 0 where
+  -- every fresh state has these lengths, and a write keeps them
+  pub fresh : (chip : ℕ) → Sized (freshAnswer chip .state)
+  pub sized : (s : State) (t : List ℕ) → Sized s → Sized (busWrite s t .state)
   pub any : (s : State) (t : List ℕ) → AnyWrite s t (busWrite s t .state)
   pub registers : (s : State) (t : List ℕ) → Sized s → writeReply t ≡ 0 → getD t 1 0 < 0xFE
       → RegisterWrite s (getD t 1 0) (drop 2 t) (busWrite s t .state)

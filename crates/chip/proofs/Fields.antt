@@ -2,20 +2,21 @@
 -- Assumes nothing.
 use mathlib.Core.Path.{_≡_, refl}
 use mathlib.Core.Bool.{Bool, true, false, cond}
-use mathlib.Core.List.{List, [], _∷_, _++_, cons-ne-nil}
+use mathlib.Core.List.{List, [], _∷_, _++_, map, cons-ne-nil}
 use mathlib.Core.Logic.{⊎-elim}
 use Prim.Native.Nat.{ℕ, zero, suc, _+_, _-_, _<_}
 use native.Mathlib.Nat.{eq-or-lt-of-le, not-suc-le-zero}
 use native.Mathlib.Omega.{arith}
 use lib.Dec.{T}
 use lib.ListN.{getD}
-use Rattle.bits.specs.Bit.{bit, has}
+use Rattle.bits.specs.Bit.{bit, has, number}
 use Rattle.bits.proofs.Tests.{tests, or-cases}
 use Rattle.fields.specs.Piece.{Field, holds, owns, width}
 use Rattle.fields.specs.Fields.{pieces, lieAll, apartAll, distinct}
 use Rattle.fields.proofs.Lists.{field-laws}
 use Rattle.chip.specs.Map.{masks, masksFrom, namedAt, printed}
-use Rattle.chip.specs.Fields.{listedFields, pictureFields, unnamedOf, unnamed, FieldsInMap}
+use Rattle.chip.specs.Fields.{listedFields, pictureFields, widthsWith, fieldRows, ownedFrom, unnamedOf}
+use Rattle.chip.specs.Fields.{unnamed, FieldsInMap}
 
 -- two lists that make none together are none each
 left-none : {A : Type 0} (s t : List A) → s ++ t ≡ [] → s ≡ []
@@ -74,12 +75,27 @@ one-differs : unnamed masks (pieces listedFields) ≡ ((0x99, 3) ∷ [])
 unfolding unnamed unnamedOf bit masks masksFrom namedAt printed pieces listedFields
 one-differs = refl
 
+field-widths : map width pictureFields ≡ widthsWith 11
+unfolding width pictureFields
+field-widths = refl
+
+listed-widths : map width listedFields ≡ widthsWith 12
+unfolding width listedFields
+listed-widths = refl
+
+field-bits : ownedFrom (pieces pictureFields) 0 256 ≡ masksFrom fieldRows 0 256
+unfolding ownedFrom number owns pieces pictureFields masksFrom namedAt fieldRows
+field-bits = refl
+
 pub fields-in-map : FieldsInMap
 fields-in-map =
     record {
       lie = fields-lie;
       apart = fields-apart;
       shared = field-laws .shared (pieces pictureFields) fields-apart;
+      widths = field-widths;
+      listed = listed-widths;
+      owned = field-bits;
       named = named-field masks (pieces pictureFields) all-named;
       differs = one-differs;
     }

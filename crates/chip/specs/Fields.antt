@@ -3,15 +3,15 @@
 -- Assumes nothing.
 use mathlib.Core.Path.{_≡_}
 use mathlib.Core.Bool.{cond, true}
-use mathlib.Core.List.{List, [], _∷_, _++_}
+use mathlib.Core.List.{List, [], _∷_, _++_, map}
 use Prim.Native.Nat.{ℕ, zero, suc, _+_}
 use lib.Dec.{T}
 use lib.ListN.{getD}
-use Rattle.bits.specs.Bit.{has}
-use Rattle.fields.specs.Piece.{Field, piece, owns}
+use Rattle.bits.specs.Bit.{has, number}
+use Rattle.fields.specs.Piece.{Field, piece, owns, width}
 use Rattle.fields.specs.Fields.{pieces, lieAll, distinct}
 use Rattle.fields.specs.Laws.{NoneShared}
-use Rattle.chip.specs.Map.{masks}
+use Rattle.chip.specs.Map.{Row, row, rows, masksFrom, masks}
 
 -- Every field but HLEN, low bits first, in the order of the table.
 abbrev pub before-HLEN : List Field
@@ -38,19 +38,39 @@ after-HLEN =
     ∷ (piece 0xA0 0 8 ∷ piece 0xA1 0 4 ∷ [])  -- YSKIP
     ∷ []
 
--- HLEN as document 01's table has it, and as the printed map has it, which decides: 99h bit 3 has no name
-abbrev pub listed-HLEN : Field
-listed-HLEN = piece 0x98 0 8 ∷ piece 0x99 0 4 ∷ []
-
-abbrev pub printed-HLEN : Field
-printed-HLEN = piece 0x98 0 8 ∷ piece 0x99 0 3 ∷ []
+-- HLEN, with so many bits at 99h: document 01's table has four there, the printed map names three and decides
+abbrev pub withHLEN : ℕ → List Field
+withHLEN high = before-HLEN ++ ((piece 0x98 0 8 ∷ piece 0x99 0 high ∷ []) ∷ after-HLEN)
 
 -- the table of document 01, and the fields that are used
 unfoldable pub listedFields : List Field
-listedFields = before-HLEN ++ (listed-HLEN ∷ after-HLEN)
+listedFields = withHLEN 4
 
 unfoldable pub pictureFields : List Field
-pictureFields = before-HLEN ++ (printed-HLEN ∷ after-HLEN)
+pictureFields = withHLEN 3
+
+-- The bits that the fields have, place by place, D7 first: a second reading of the two tables.
+unfoldable pub fieldRows : List Row
+fieldRows =
+    row 0x61 0b0000_0001 ∷  -- FISE
+    rows 0x70 0x71 0b1111_1111 ∷  -- ADWHS, ADWHE
+    row 0x72 0b0111_0111 ∷  -- ADWHE, ADWHS
+    rows 0x7A 0x7B 0b1111_1111 ∷  -- FAL, LAL
+    row 0x7C 0b0101_0000 ∷  -- LAL8, FAL8
+    rows 0x81 0x83 0b1111_1111 ∷  -- PCL
+    rows 0x90 0x94 0b1111_1111 ∷  -- XOFS, XPIX, YOFSO, YOFSE, and their high bits
+    row 0x95 0b1111_1111 ∷  -- YPIX
+    row 0x96 0b0000_0011 ∷  -- YPIX9, YPIX8
+    row 0x98 0b1111_1111 ∷  -- HLEN
+    row 0x99 0b0000_0111 ∷  -- HLEN10 to HLEN8
+    rows 0x9A 0xA0 0b1111_1111 ∷  -- XINC, YINC, YIWGTO, YIWGTE, YSKIP
+    row 0xA1 0b0000_1111 ∷  -- YSKIP11 to YSKIP8
+    []
+
+-- the bits of n places from p on that a field has
+unfoldable pub ownedFrom : Field → ℕ → ℕ → List ℕ
+ownedFrom f p zero = []
+ownedFrom f p (suc n) = number 8 (λ j. cond (owns f p j) 1 0) ∷ ownedFrom f (suc p) n
 
 -- the bits of a field, as place and bit, that a table of masks does not name: of n bits of a place, and of
 -- all pieces
@@ -64,11 +84,20 @@ unnamed table [] = []
 unnamed table (p ∷ ps) =
     unnamedOf (getD table (p .place) 0) (p .place) (p .position) (p .width) ++ unnamed table ps
 
+-- the fields' widths, in the order of the table, with that of HLEN
+abbrev pub widthsWith : ℕ → List ℕ
+widthsWith hlen = 1 ∷ 11 ∷ 11 ∷ 9 ∷ 9 ∷ 24 ∷ 10 ∷ 10 ∷ 10 ∷ 10 ∷ 10 ∷ hlen ∷ 12 ∷ 12 ∷ 12 ∷ 12 ∷ 12 ∷ []
+
 -- Document 01: no two fields share a bit, and all lie in named bits.
 pub record FieldsInMap : Type 0 where
   pub lie : T (lieAll 256 (pieces pictureFields))
   pub apart : T (distinct (pieces pictureFields))
   pub shared : NoneShared (pieces pictureFields)
+  -- how wide each field is, here and in document 01's table
+  pub widths : map width pictureFields ≡ widthsWith 11
+  pub listed : map width listedFields ≡ widthsWith 12
+  -- which bits of each place the fields have
+  pub owned : ownedFrom (pieces pictureFields) 0 256 ≡ masksFrom fieldRows 0 256
   pub named : (q j : ℕ) → T (owns (pieces pictureFields) q j) → has (getD masks q 0) j ≡ true
   -- 99h bit 3 is the one bit of document 01's table that the printed map does not name
   pub differs : unnamed masks (pieces listedFields) ≡ ((0x99, 3) ∷ [])

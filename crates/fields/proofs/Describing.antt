@@ -15,7 +15,7 @@ use lib.Seq.{drop-cons}
 use Rattle.bits.proofs.Tests.{tests, and-iff}
 use Rattle.fields.specs.Piece.{getPiece, putPiece, get, put, width}
 use Rattle.fields.specs.Fields.{lies, lieAll}
-use Rattle.fields.specs.Described.{pieceAt, piecesOf, Lying, Described}
+use Rattle.fields.specs.Described.{pieceAt, piecesOf, Lying, Described, WidestField}
 use Rattle.fields.proofs.Pieces.{get-piece-lt}
 
 pub next-piece : (ns : List ℕ) (i : ℕ) → i + 3 ≤ length ns → piecesOf (drop i ns)
@@ -115,3 +115,9 @@ pub put-last : (file ns : List ℕ) (rest i : ℕ) → length ns < i + 3 → fil
     ≡ put file (piecesOf (drop i ns)) rest
 unfolding put
 put-last file ns rest i l = rw (last-piece ns i l)
+
+-- ---- the widest field is described
+
+pub widest-field : WidestField
+unfolding piecesOf lieAll width
+widest-field file p l = (record { lie = simp tests (omega arith); narrow = omega arith }, refl)

@@ -1,22 +1,21 @@
 -- A number put into a field of several pieces, and what a get then gives.
 -- Assumes nothing.
-use mathlib.Core.Path.{_≡_, refl, sym, _∙_}
+use mathlib.Core.Path.{_≡_, refl, sym, _∙_, ap}
 use mathlib.Core.Bool.{false}
 use mathlib.Core.List.{List, [], _∷_}
 use mathlib.Core.Logic.{inl, inr, ⊎-elim}
-use Prim.Native.Nat.{ℕ, _+_, _*_, _/_, _%_, _^_, _<_}
-use native.Mathlib.Nat.{mod-eq-of-lt}
+use Prim.Native.Nat.{ℕ, zero, suc, _+_, _*_, _/_, _%_, _^_, _<_}
+use native.Mathlib.Nat.{mod-eq-of-lt, not-suc-le-zero, le-of-suc-le-suc}
 use native.Mathlib.Omega.{arith}
 use lib.Dec.{T}
 use lib.ListN.{length, getD}
 use lib.Pow.{mod-pow-add, high}
 use Rattle.bits.specs.Bit.{bit}
 use Rattle.bits.proofs.Digits.{bit-under}
-use Rattle.bits.proofs.Tests.{or-left, or-right, or-in, tests, and-iff, or-cases, is-true, is-false}
-use Rattle.bits.proofs.Tests.{true-or-false}
+use Rattle.bits.proofs.Tests.{or-left, or-right, or-in, tests, and-iff, or-cases, is-false}
 use Rattle.fields.specs.Piece.{Piece, Field, holds, owns, getPiece, putPiece, get, put, width}
 use Rattle.fields.specs.Fields.{lies, lieAll, apart, apartAll, distinct}
-use Rattle.fields.specs.Laws.{Bytes, PutMeans, NoneShared, uses}
+use Rattle.fields.specs.Laws.{Bytes, PutMeans, nowhere, NoneShared}
 use Rattle.fields.proofs.Pieces.{length-put-piece, put-piece-bit, get-piece-cong, get-piece-lt}
 use Rattle.fields.proofs.Pieces.{get-piece-bit, holds-own, get-put-piece, put-get-piece, apart-sound}
 
@@ -125,18 +124,24 @@ put-means file f v t d =
 
 -- ---- no bit of any place is in two pieces of a field that passes the test
 
-none-used : (ps : Field) (q j : ℕ) → (T (owns ps q j) → ⊥) → uses ps q j ≡ 0
-unfolding uses owns
-none-used [] q j h = refl
-none-used (p ∷ ps) q j h =
-    rw (is-false (holds p q j) (λ t. h (or-in (holds p q j) (owns ps q j) (inl t))))
-    (omega (arith, none-used ps q j (λ t. h (or-in (holds p q j) (owns ps q j) (inr t)))))
+-- a bit of one of its pieces is a bit of the field
+owned : (ps : Field) (q j k : ℕ) → k < length ps → T (holds (getD ps k nowhere) q j) → T (owns ps q j)
+unfolding owns
+owned [] q j k l h = absurd (not-suc-le-zero l)
+owned (p ∷ ps) q j zero l h = or-in (holds p q j) (owns ps q j) (inl h)
+owned (p ∷ ps) q j (suc k) l h =
+    or-in (holds p q j) (owns ps q j) (inr (owned ps q j k (le-of-suc-le-suc l) h))
 
 pub none-shared : (ps : Field) → T (distinct ps) → NoneShared ps
-unfolding uses distinct
-none-shared [] d q j = omega arith
-none-shared (p ∷ ps) d q j =
+unfolding distinct
+none-shared [] d q j i k li lk hi hk = absurd (not-suc-le-zero li)
+none-shared (p ∷ ps) d q j zero zero li lk hi hk = refl
+none-shared (p ∷ ps) d q j zero (suc k) li lk hi hk =
     let a = and-iff (apartAll p ps) (distinct ps) .0 d in
-    ⊎-elim (λ t. rw (is-true (holds p q j) t) (omega (arith, none-used ps q j (apart-all p ps (a .0) q j t))))
-    (λ e. rw e (omega (arith, none-shared ps (a .1) q j)))
-    (true-or-false (holds p q j))
+    absurd (apart-all p ps (a .0) q j hi (owned ps q j k (le-of-suc-le-suc lk) hk))
+none-shared (p ∷ ps) d q j (suc i) zero li lk hi hk =
+    let a = and-iff (apartAll p ps) (distinct ps) .0 d in
+    absurd (apart-all p ps (a .0) q j hk (owned ps q j i (le-of-suc-le-suc li) hi))
+none-shared (p ∷ ps) d q j (suc i) (suc k) li lk hi hk =
+    let a = and-iff (apartAll p ps) (distinct ps) .0 d in
+    ap suc (none-shared ps (a .1) q j i k (le-of-suc-le-suc li) (le-of-suc-le-suc lk) hi hk)

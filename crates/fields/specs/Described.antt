@@ -1,5 +1,6 @@
 -- A field as code hands it on: three numbers a piece, its place, its position and its width.
 -- Assumes nothing.
+use mathlib.Core.Path.{_≡_}
 use mathlib.Core.List.{List, [], _∷_}
 use Prim.Native.Nat.{ℕ, _+_, _<_, _≤_}
 use lib.Dec.{T}
@@ -28,3 +29,13 @@ pub record Lying (file numbers : List ℕ) (i : ℕ) : Type 0 where
 pub record Described (file numbers : List ℕ) : Type 0 where
   pub lie : T (lieAll (length file) (piecesOf numbers))
   pub narrow : width (piecesOf numbers) ≤ 32
+
+-- four whole bytes from a place on
+abbrev pub fourBytes : ℕ → List ℕ
+fourBytes p = p ∷ 0 ∷ 8 ∷ (p + 1) ∷ 0 ∷ 8 ∷ (p + 2) ∷ 0 ∷ 8 ∷ (p + 3) ∷ 0 ∷ 8 ∷ []
+
+-- What is asked can be met by the widest field, of 32 bits, anywhere in a file.
+abbrev pub WidestField : Type 0
+WidestField =
+    (file : List ℕ) (p : ℕ) → p + 4 ≤ length file
+    → Described file (fourBytes p) × (width (piecesOf (fourBytes p)) ≡ 32)

@@ -1,23 +1,24 @@
 -- The laws of fields, once over every position and width (document 01, "What the statements have to catch").
 -- Assumes nothing.
 use mathlib.Core.Path.{_≡_}
-use mathlib.Core.Bool.{cond, false}
-use mathlib.Core.List.{List, [], _∷_}
-use Prim.Native.Nat.{ℕ, _+_, _<_, _≤_, _^_}
+use mathlib.Core.Bool.{false}
+use mathlib.Core.List.{List}
+use Prim.Native.Nat.{ℕ, _<_, _^_}
 use lib.Dec.{T}
 use lib.ListN.{length, getD}
 use Rattle.bits.specs.Bit.{bit}
-use Rattle.fields.specs.Piece.{Field, holds, owns, get, put, width}
+use Rattle.fields.specs.Piece.{Piece, Field, piece, holds, owns, get, put, width}
 use Rattle.fields.specs.Fields.{pieces, getAll, putAll, lieAll, distinct, fitAll}
 
--- how many pieces of a field have bit j of place q
-unfoldable pub uses : Field → ℕ → ℕ → ℕ
-uses [] q j = 0
-uses (p ∷ ps) q j = cond (holds p q j) 1 0 + uses ps q j
+-- a piece without a bit, for what lies past the end of a list
+abbrev pub nowhere : Piece
+nowhere = piece 0 0 0
 
--- no bit of any place is in two pieces
+-- no bit of any place is in two pieces: two pieces that have it stand at one place of the list
 abbrev pub NoneShared : Field → Type 0
-NoneShared ps = (q j : ℕ) → uses ps q j ≤ 1
+NoneShared ps =
+    (q j i k : ℕ) → i < length ps → k < length ps
+    → T (holds (getD ps i nowhere) q j) → T (holds (getD ps k nowhere) q j) → i ≡ k
 
 -- the list holds bytes
 abbrev pub Bytes : List ℕ → Type 0

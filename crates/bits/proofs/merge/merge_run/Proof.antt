@@ -17,6 +17,9 @@ use Rattle.bits.proofs.merge.merge_run.Tie as tie
 -- measure is what is left of the bytes.
 -- Assumes nothing.
 
+-- measure is what is left of the bytes.
+-- Assumes nothing.
+
 abbrev Inv-loop : tie.InvT-loop
 Inv-loop masks file₀ at bytes i₀ file i =
     (i ≤ length bytes) × (length file ≡ length file₀)

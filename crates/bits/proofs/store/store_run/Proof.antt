@@ -17,6 +17,9 @@ use Rattle.bits.proofs.store.store_run.Tie as tie
 -- is left of the bytes.
 -- Assumes nothing.
 
+-- is left of the bytes.
+-- Assumes nothing.
+
 -- what a place takes: the byte itself
 abbrev stored : ℕ → ℕ → ℕ → ℕ
 stored p old b = b

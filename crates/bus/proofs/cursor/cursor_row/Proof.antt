@@ -17,6 +17,9 @@ use Rattle.bus.proofs.cursor.cursor_row.Tie as tie
 -- long it is.
 -- Assumes nothing.
 
+-- long it is.
+-- Assumes nothing.
+
 slice-aggregate-result : tie.Need-slice-aggregate-result
 slice-aggregate-result c = search needs
 

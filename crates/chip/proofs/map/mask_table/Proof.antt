@@ -12,6 +12,9 @@ use Rattle.chip.proofs.map.mask_table.Tie as tie
 -- computing both.
 -- Assumes nothing.
 
+-- computing both.
+-- Assumes nothing.
+
 returns : tie.Need-returns
 unfolding masks masksFrom namedAt printed
 returns c = refl
