@@ -1,9 +1,10 @@
 -- Tests and the facts that they say. `simp tests at t` turns a test t into its facts.
 -- Assumes nothing.
-use mathlib.Core.Bool.{Bool, true, false, false≢true, true≢false, _&&_, _||_}
+use mathlib.Core.Bool.{Bool, true, false, not, false≢true, true≢false, _&&_, _||_, and-eq-true-iff}
 use mathlib.Core.Logic.{_↔_, _⊎_, inl, inr, ⊎-elim}
 use mathlib.Core.Path.{_≡_, refl}
 use Prim.Native.Nat.{ℕ, _<_, _≤_}
+use borrow.Author.Tests.{leb-false, not-false, ltb-false, le-ltb, leb-true, le-leb, eqb-true, eq-eqb}
 use lib.Dec.{T, eqb, leb, ltb, leb→le, le→leb, ltb→lt, lt→ltb, eqb→eq, eqb-refl}
 
 pub and-iff : (a b : Bool) → T (a && b) ↔ (T a × T b)
@@ -43,6 +44,10 @@ pub is-false : (b : Bool) → (T b → ⊥) → b ≡ false
 is-false true n = absurd (n tt)
 is-false false n = refl
 
+-- one of two numbers is not above the other, or is
+pub le-or-lt : (m n : ℕ) → (m ≤ n) ⊎ (n < m)
+le-or-lt m n = ⊎-elim (λ t. inl (leb→le m n t)) (λ e. inr (leb-false m n e)) (true-or-false (leb m n))
+
 pub leb-iff : (m n : ℕ) → T (leb m n) ↔ (m ≤ n)
 leb-iff m n = (leb→le m n, le→leb m n)
 
@@ -53,3 +58,29 @@ pub eqb-iff : (m n : ℕ) → T (eqb m n) ↔ (m ≡ n)
 eqb-iff m n = (eqb→eq m n, λ e. rw e (eqb-refl n))
 
 pub ruleset tests = (and-iff, leb-iff, ltb-iff, eqb-iff)
+
+-- ---- tests that failed. `simp refusals at e` turns `t ≡ false` into its facts.
+
+pub or-false-iff : (a b : Bool) → ((a || b) ≡ false) ↔ ((a ≡ false) × (b ≡ false))
+or-false-iff a b = (λ e. (or-left a b e, or-right a b e), λ p. rw (p .0, p .1))
+
+pub not-false-iff : (a : Bool) → (not a ≡ false) ↔ (a ≡ true)
+not-false-iff a = (not-false a, λ e. rw e)
+
+pub ltb-false-iff : (m n : ℕ) → (ltb m n ≡ false) ↔ (n ≤ m)
+ltb-false-iff m n = (ltb-false m n, le-ltb m n)
+
+pub leb-true-iff : (m n : ℕ) → (leb m n ≡ true) ↔ (m ≤ n)
+leb-true-iff m n = (leb-true m n, le-leb m n)
+
+pub eqb-true-iff : (m n : ℕ) → (eqb m n ≡ true) ↔ (m ≡ n)
+eqb-true-iff m n = (eqb-true m n, eq-eqb m n)
+
+pub ruleset refusals = (
+  or-false-iff,
+  and-eq-true-iff,
+  not-false-iff,
+  ltb-false-iff,
+  leb-true-iff,
+  eqb-true-iff,
+)

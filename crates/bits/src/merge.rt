@@ -15,7 +15,8 @@ pub fn merge_byte(mask: u8, old: u8, new: u8) -> u8
 // Each byte of a run is merged into its place, under the place's mask. The run must lie in the file.
 pub fn merge_run(masks: &[u8], file: &mut [u8], at: usize, bytes: &[u8])
     requires { ⌜ (at + length (now bytes) ≤ length (now file)) × (length (now file) ≤ length (now masks)) ⌝ }
-    ensures { λ _. ⌜ now (file .exit) ≡ mergeRun (now (masks .entry)) (now (file .entry)) at (now (bytes .entry)) ⌝ }
+    ensures { λ _. ⌜ now (file .exit)
+        ≡ mergeRun (now (masks .entry)) (now (file .entry)) at (now (bytes .entry)) ⌝ }
 {
     let mut i = 0;
     while i < bytes.len() {

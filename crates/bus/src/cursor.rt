@@ -10,7 +10,8 @@ const ROW: usize = 8;
 
 // The eight bytes of a row; the empty part at the map's front for a row above 31 or a map of another length.
 pub fn cursor_row(map: &[u8], row: usize) -> &[u8]
-    ensures { λ r. ⌜ PartIs (map .entry) (rowStart (now (map .entry)) row) (rowCount (now (map .entry)) row) r ⌝ }
+    ensures { λ r. ⌜ PartIs (map .entry) (rowStart (now (map .entry)) row)
+        (rowCount (now (map .entry)) row) r ⌝ }
 {
     if map.len() != MAP {
         return &map[..0];

@@ -13,7 +13,8 @@ use Rattle.bits.proofs.Tests.{or-left, or-right, and-iff, or-cases, is-false}
 use Rattle.fields.specs.Piece.{Piece, Field, holds, owns, put, width}
 use Rattle.fields.specs.Fields.{pieces, putAll, getAll, lies, lieAll, apart, apartAll, distinct, fitAll}
 use Rattle.fields.specs.Laws.{Bytes, Disjoint, AllMeans, FieldLaws}
-use Rattle.fields.proofs.Putting.{apart-all, length-put, put-outside, get-cong, get-put, put-get}
+use Rattle.fields.proofs.Putting.{apart-all, length-put, put-bytes, put-outside, get-cong, get-put}
+use Rattle.fields.proofs.Putting.{put-get}
 use Rattle.fields.proofs.Putting.{put-means, none-shared}
 
 -- ---- the tests of a joined list are those of its parts
@@ -64,6 +65,12 @@ length-put-all file [] vs = refl
 length-put-all file (f ∷ fs) [] = refl
 length-put-all file (f ∷ fs) (v ∷ vs) = length-put-all (put file f v) fs vs ∙ length-put file f v
 
+put-all-bytes : (file : List ℕ) (fs : List Field) (vs : List ℕ) → Bytes file → Bytes (putAll file fs vs)
+unfolding putAll
+put-all-bytes file [] vs b = b
+put-all-bytes file (f ∷ fs) [] b = b
+put-all-bytes file (f ∷ fs) (v ∷ vs) b = put-all-bytes (put file f v) fs vs (put-bytes file f v b)
+
 module _ (n : ℕ) where
   all-outside : (file : List ℕ) (fs : List Field) (vs : List ℕ) → n ≡ length file → T (lieAll n (pieces fs))
       → (q j : ℕ) → j < 8 → owns (pieces fs) q j ≡ false
@@ -110,6 +117,7 @@ all-means : (file : List ℕ) (fs : List Field) (vs : List ℕ) → T (lieAll (l
 all-means file fs vs t d w =
     record {
       long = length-put-all file fs vs;
+      bytes = put-all-bytes file fs vs;
       reads = all-reads (length file) file fs vs refl t d w;
       outside = all-outside (length file) file fs vs refl t;
     }

@@ -2,9 +2,9 @@
 -- Assumes nothing.
 use mathlib.Core.Path.{_≡_, refl, sym, _∙_, ap}
 use mathlib.Core.Bool.{Bool, true, false, not, cond}
-use mathlib.Core.List.{List}
+use mathlib.Core.List.{List, [], _∷_}
 use mathlib.Core.Logic.{⊎-elim}
-use Prim.Native.Nat.{ℕ, _+_, _-_, _%_, _^_, _<_, _≤_}
+use Prim.Native.Nat.{ℕ, zero, suc, _+_, _-_, _%_, _^_, _<_, _≤_}
 use native.Mathlib.Nat.{add-sub-cancel-left}
 use native.Mathlib.Decide.{ℕ-discrete}
 use native.Mathlib.Omega.{arith}
@@ -18,6 +18,7 @@ use Rattle.bits.proofs.Merging.{cond-lt}
 use Rattle.bits.proofs.Tests.{tests, or-cases, is-true, from-true, eqb-iff}
 use Rattle.fields.specs.Piece.{Piece, within, holds, bitsAt, withBits, getPiece, putPiece}
 use Rattle.fields.specs.Fields.{apart}
+use Rattle.fields.specs.Laws.{Bytes}
 
 -- ---- bits of a byte
 
@@ -63,6 +64,19 @@ put-piece-bit file p v l q j k = at-place (ℕ-discrete q (p .place))
         )
         (with-bits-bit (getD file (p .place) 0) (p .position) (p .width) v j k)
     at-place (no n) = rw (getD-set-other file (p .place) q _ 0 n, ne-eqb q (p .place) n)
+
+-- a list of bytes stays one
+bytes-set : (file : List ℕ) (i x : ℕ) → x < 256 → Bytes file → Bytes (set file i x)
+bytes-set [] i x l b q = b q
+bytes-set (y ∷ ys) zero x l b zero = l
+bytes-set (y ∷ ys) zero x l b (suc q) = b (suc q)
+bytes-set (y ∷ ys) (suc i) x l b zero = b zero
+bytes-set (y ∷ ys) (suc i) x l b (suc q) = bytes-set ys i x l (λ r. b (suc r)) q
+
+pub put-piece-bytes : (file : List ℕ) (p : Piece) (v : ℕ) → Bytes file → Bytes (putPiece file p v)
+unfolding putPiece
+put-piece-bytes file p v =
+    bytes-set file (p .place) _ (with-bits-lt (getD file (p .place) 0) (p .position) (p .width) v)
 
 -- a get depends on the piece's own bits alone
 pub get-piece-cong : (a b : List ℕ) (p : Piece)

@@ -16,7 +16,8 @@ use Rattle.bits.proofs.Tests.{or-left, or-right, or-in, tests, and-iff, or-case
 use Rattle.fields.specs.Piece.{Piece, Field, holds, owns, getPiece, putPiece, get, put, width}
 use Rattle.fields.specs.Fields.{lies, lieAll, apart, apartAll, distinct}
 use Rattle.fields.specs.Laws.{Bytes, PutMeans, nowhere, NoneShared}
-use Rattle.fields.proofs.Pieces.{length-put-piece, put-piece-bit, get-piece-cong, get-piece-lt}
+use Rattle.fields.proofs.Pieces.{length-put-piece, put-piece-bytes, put-piece-bit, get-piece-cong}
+use Rattle.fields.proofs.Pieces.{get-piece-lt}
 use Rattle.fields.proofs.Pieces.{get-piece-bit, holds-own, get-put-piece, put-get-piece, apart-sound}
 
 -- ---- tests
@@ -37,6 +38,11 @@ pub length-put : (file : List ℕ) (f : Field) (v : ℕ) → length (put file f 
 unfolding put
 length-put file [] v = refl
 length-put file (p ∷ ps) v = length-put (putPiece file p v) ps _ ∙ length-put-piece file p v
+
+pub put-bytes : (file : List ℕ) (f : Field) (v : ℕ) → Bytes file → Bytes (put file f v)
+unfolding put
+put-bytes file [] v b = b
+put-bytes file (p ∷ ps) v b = put-bytes (putPiece file p v) ps _ (put-piece-bytes file p v b)
 
 module _ (n : ℕ) where
   pub put-outside : (file : List ℕ) (f : Field) (v : ℕ) → n ≡ length file → T (lieAll n f) → (q j : ℕ)
@@ -114,6 +120,7 @@ pub put-means : (file : List ℕ) (f : Field) (v : ℕ) → T (lieAll (length fi
 put-means file f v t d =
     record {
       long = length-put file f v;
+      bytes = put-bytes file f v;
       reads = λ l. get-put (length file) file f v refl t d ∙ mod-eq-of-lt l;
       outside = put-outside (length file) file f v refl t;
       others = λ g tg h.

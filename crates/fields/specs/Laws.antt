@@ -31,6 +31,7 @@ Disjoint f g = (q j : ℕ) → T (owns f q j) → T (owns g q j) → ⊥
 -- A number put into a field; `after` is the file that it leaves.
 pub record PutMeans (file : List ℕ) (f : Field) (v : ℕ) (after : List ℕ) : Type 0 where
   pub long : length after ≡ length file
+  pub bytes : Bytes file → Bytes after
   -- the field gives the number, if the number fits it
   pub reads : v < 2 ^ width f → get after f ≡ v
   -- a bit outside the field stays
@@ -42,6 +43,7 @@ pub record PutMeans (file : List ℕ) (f : Field) (v : ℕ) (after : List ℕ) :
 -- A list of numbers put into a list of fields.
 pub record AllMeans (file : List ℕ) (fs : List Field) (vs after : List ℕ) : Type 0 where
   pub long : length after ≡ length file
+  pub bytes : Bytes file → Bytes after
   pub reads : getAll after fs ≡ vs
   pub outside : (q j : ℕ) → j < 8 → owns (pieces fs) q j ≡ false
       → bit (getD after q 0) j ≡ bit (getD file q 0) j

@@ -30,7 +30,8 @@ fn piece_at(file: &[u8], numbers: &[u8], i: usize) -> u32
 // The low bits of a number into the piece described at i.
 fn place_at(file: &mut [u8], numbers: &[u8], i: usize, value: u32)
     requires { ⌜ Lying (now file) (now numbers) i ⌝ }
-    ensures { λ _. ⌜ now (file .exit) ≡ putPiece (now (file .entry)) (pieceAt (now (numbers .entry)) i) value ⌝ }
+    ensures { λ _. ⌜ now (file .exit)
+        ≡ putPiece (now (file .entry)) (pieceAt (now (numbers .entry)) i) value ⌝ }
 {
     let place = number_at(numbers, i) as usize;
     let position = number_at(numbers, i + 1);

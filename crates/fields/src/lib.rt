@@ -2,3 +2,4 @@
 // the pieces lie in the file.
 pub mod field;
 mod piece;
+pub mod table;

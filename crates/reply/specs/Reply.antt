@@ -21,9 +21,29 @@ wrongAddress = 2
 abbrev pub passesEnd : ℕ
 passesEnd = 3
 
--- among others: a wrong chip byte
+-- a standard or a source picture that cannot be, or a wrong chip byte
 abbrev pub wrongRequest : ℕ
 wrongRequest = 4
+
+-- an output limit is broken
+abbrev pub outputLimit : ℕ
+outputLimit = 5
+
+-- a number does not fit its field
+abbrev pub tooLarge : ℕ
+tooLarge = 6
+
+-- the pixel clock is over 45 MHz
+abbrev pub tooFast : ℕ
+tooFast = 7
+
+-- a weight is below 0 or does not fit its field
+abbrev pub wrongWeight : ℕ
+wrongWeight = 8
+
+-- the file is no accepted picture's
+abbrev pub noPicture : ℕ
+noPicture = 9
 
 -- a read of another place than the readable three
 abbrev pub notReadable : ℕ

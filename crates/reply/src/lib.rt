@@ -12,8 +12,23 @@ pub const WRONG_ADDRESS: u8 = 2;
 // A run that passes its end, or colour bytes that are not whole threes.
 pub const PASSES_END: u8 = 3;
 
-// A request that cannot be met, a wrong chip byte among them.
+// A standard or a source picture that cannot be, or a wrong chip byte.
 pub const WRONG_REQUEST: u8 = 4;
+
+// An output limit is broken.
+pub const OUTPUT_LIMIT: u8 = 5;
+
+// A number does not fit its field.
+pub const TOO_LARGE: u8 = 6;
+
+// The pixel clock is over 45 MHz.
+pub const TOO_FAST: u8 = 7;
+
+// A weight is below 0 or does not fit its field.
+pub const WRONG_WEIGHT: u8 = 8;
+
+// The file is no accepted picture's.
+pub const NO_PICTURE: u8 = 9;
 
 // A read of another place than the readable three.
 pub const NOT_READABLE: u8 = 12;

@@ -11,15 +11,6 @@ use Rattle.bits.proofs.Runs.{turn-next, turn-last, masked, run-none, ru
 use Rattle.bits.proofs.merge.merge_run.Statement.{statement}
 use Rattle.bits.proofs.merge.merge_run.Tie as tie
 
--- measure is what is left of the bytes.
--- Assumes nothing.
-
--- measure is what is left of the bytes.
--- Assumes nothing.
-
--- measure is what is left of the bytes.
--- Assumes nothing.
-
 abbrev Inv-loop : tie.InvT-loop
 Inv-loop masks file₀ at bytes i₀ file i =
     (i ≤ length bytes) × (length file ≡ length file₀)

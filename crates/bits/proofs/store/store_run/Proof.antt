@@ -11,15 +11,6 @@ use Rattle.bits.proofs.Runs.{turn-next, turn-last}
 use Rattle.bits.proofs.store.store_run.Statement.{statement}
 use Rattle.bits.proofs.store.store_run.Tie as tie
 
--- is left of the bytes.
--- Assumes nothing.
-
--- is left of the bytes.
--- Assumes nothing.
-
--- is left of the bytes.
--- Assumes nothing.
-
 -- what a place takes: the byte itself
 abbrev stored : ℕ → ℕ → ℕ → ℕ
 stored p old b = b

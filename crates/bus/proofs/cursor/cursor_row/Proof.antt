@@ -11,15 +11,6 @@ use Rattle.bus.specs.Cursor.{rowStart, rowCount}
 use Rattle.bus.proofs.cursor.cursor_row.Statement.{statement}
 use Rattle.bus.proofs.cursor.cursor_row.Tie as tie
 
--- long it is.
--- Assumes nothing.
-
--- long it is.
--- Assumes nothing.
-
--- long it is.
--- Assumes nothing.
-
 slice-aggregate-result : tie.Need-slice-aggregate-result
 slice-aggregate-result c = search needs
 

@@ -6,15 +6,6 @@ use Rattle.chip.specs.Map.{masks, masksFrom, namedAt, printed}
 use Rattle.chip.proofs.map.mask_table.Statement.{statement}
 use Rattle.chip.proofs.map.mask_table.Tie as tie
 
--- computing both.
--- Assumes nothing.
-
--- computing both.
--- Assumes nothing.
-
--- computing both.
--- Assumes nothing.
-
 returns : tie.Need-returns
 unfolding masks masksFrom namedAt printed
 returns c = refl

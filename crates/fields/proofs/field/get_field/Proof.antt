@@ -11,15 +11,6 @@ use Rattle.fields.proofs.Describing.{Reading, Turn, turn, reading-start
 use Rattle.fields.proofs.field.get_field.Statement.{statement}
 use Rattle.fields.proofs.field.get_field.Tie as tie
 
--- measure is what is left of the numbers.
--- Assumes nothing.
-
--- measure is what is left of the numbers.
--- Assumes nothing.
-
--- measure is what is left of the numbers.
--- Assumes nothing.
-
 abbrev Inv-loop : tie.InvT-loop
 Inv-loop file numbers value₀ shift₀ i₀ value shift i = (i ≤ length numbers)
     × Reading file numbers value shift i

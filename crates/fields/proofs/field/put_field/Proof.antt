@@ -15,15 +15,6 @@ use Rattle.fields.proofs.Pieces.{length-put-piece}
 use Rattle.fields.proofs.field.put_field.Statement.{statement}
 use Rattle.fields.proofs.field.put_field.Tie as tie
 
--- measure is what is left of the numbers.
--- Assumes nothing.
-
--- measure is what is left of the numbers.
--- Assumes nothing.
-
--- measure is what is left of the numbers.
--- Assumes nothing.
-
 abbrev Inv-loop : tie.InvT-loop
 Inv-loop file₀ numbers value rest₀ i₀ file rest i =
     (i ≤ length numbers) × (length file ≡ length file₀)

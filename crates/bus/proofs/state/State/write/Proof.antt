@@ -13,15 +13,6 @@ use Rattle.bus.proofs.Starts.{tail-part}
 use Rattle.bus.proofs.state.State.write.Statement.{statement}
 use Rattle.bus.proofs.state.State.write.Tie as tie
 
--- reply 0 says what the writers ask.
--- Assumes nothing.
-
--- reply 0 says what the writers ask.
--- Assumes nothing.
-
--- reply 0 says what the writers ask.
--- Assumes nothing.
-
 -- the reply was 0, and what that says of the transaction
 zero : (c : tie.Else1) → writeReply (c .before .before .before .args .transaction .now) ≡ 0
 zero c = sym (c .before .write-reply .ensures) ∙ c .if1 .left

@@ -1,0 +1,6 @@
+pub mod Back
+pub mod Accepted
+pub mod Meaning
+pub mod Offsets
+pub mod Answers
+pub mod Figures

@@ -1,0 +1,10 @@
+pub mod Rounds
+pub mod Integers
+pub mod Steps
+pub mod Kept
+pub mod Windows
+pub mod Machine
+pub mod Fits
+pub mod Weights
+pub mod Bounds
+pub mod Meaning
