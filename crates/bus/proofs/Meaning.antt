@@ -12,13 +12,12 @@ use lib.Seq.{length-sets}
 use Rattle.bits.specs.Run.{mergeRun}
 use Rattle.bits.proofs.Runs.{run-law, rule-long, masked, run-none, run-more}
 use Rattle.chip.specs.Map.{masks}
-use Rattle.reply.specs.Reply.{lowest}
 use Rattle.bus.specs.declared.state.State.{State}
 use Rattle.bus.specs.declared.state.Answer.{Answer}
-use Rattle.bus.specs.Writes.{fromStart, registersPass, passes, writeTests, writeReply, cellsRun}
+use Rattle.bus.specs.Writes.{fromStart, writeReply, cellsRun}
 use Rattle.bus.specs.States.{zeroState, knownChip, freshAnswer, stored, busWrite}
 use Rattle.bus.specs.Meaning.{AnyWrite, RegisterWrite, CursorWrite, ColourWrite, Sized, WritesMean}
-use Rattle.bus.specs.Meaning.{RepliesMean, Figure8}
+use Rattle.bus.specs.Meaning.{RepliesMean}
 use Rattle.bus.proofs.Accepted.{write-lowest, read-lowest, accepted, registers-fit, registers-end}
 use Rattle.bus.proofs.Accepted.{cursor-fits, colours-fit, cells-fit}
 use Rattle.bus.proofs.Cells.{cells-mean}
@@ -130,7 +129,3 @@ writes-mean =
 
 pub replies-mean : RepliesMean
 replies-mean = record { write = write-lowest; read = read-lowest }
-
-pub figure-8 : Figure8
-unfolding busWrite writeReply writeTests lowest passes registersPass
-figure-8 = record { one = λ s a. refl; two = λ s a b. refl; alone = λ s a. refl }

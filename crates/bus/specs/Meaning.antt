@@ -2,7 +2,7 @@
 -- States.antt and Reads.antt.
 -- Assumes nothing.
 use mathlib.Core.Path.{_≡_}
-use mathlib.Core.List.{List, [], _∷_}
+use mathlib.Core.List.{List, _∷_}
 use mathlib.Core.Logic.{_⊎_}
 use Prim.Native.Nat.{ℕ, _+_, _*_, _<_, _≤_}
 use lib.ListN.{length, getD, drop}
@@ -70,10 +70,3 @@ pub record WritesMean : Type 0 where
   pub colours : (s : State) (start : ℕ) (bytes : List ℕ) → Sized s
       → writeReply (0x88 ∷ 0xFF ∷ start ∷ bytes) ≡ 0
       → ColourWrite s start bytes (busWrite s (0x88 ∷ 0xFF ∷ start ∷ bytes) .state)
-
--- Figure 8 of document 01: a write of 88h, FDh with one byte is done and with two it is 3, whatever the state
--- and the bytes; 88h alone, as any byte alone, is 1.
-pub record Figure8 : Type 0 where
-  pub one : (s : State) (a : ℕ) → busWrite s (0x88 ∷ 0xFD ∷ a ∷ []) .reply ≡ 0
-  pub two : (s : State) (a b : ℕ) → busWrite s (0x88 ∷ 0xFD ∷ a ∷ b ∷ []) .reply ≡ 3
-  pub alone : (s : State) (a : ℕ) → busWrite s (a ∷ []) .reply ≡ 1

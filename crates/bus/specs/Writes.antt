@@ -7,6 +7,7 @@ use Prim.Native.Nat.{ℕ, _+_, _*_, _/_, _%_}
 use lib.Dec.{eqb, ltb}
 use lib.ListN.{length, getD, drop}
 use lib.Seq.{sets}
+use Rattle.chip.specs.File.{registersEnd}
 use Rattle.reply.specs.Reply.{lowest, wrongLength, wrongAddress, passesEnd}
 
 abbrev pub writeAddress : ℕ
@@ -34,7 +35,7 @@ fromStart none some (start ∷ bytes) = some start bytes
 
 -- registers: subaddress + count must be at most FEh
 unfoldable pub registersPass : ℕ → List ℕ → Bool
-registersPass subaddress bytes = ltb 0xFE (subaddress + length bytes)
+registersPass subaddress bytes = ltb registersEnd (subaddress + length bytes)
 
 -- a cell is one byte of the cursor map, and three of the colour table: red, green and blue
 abbrev pub cursorCell : ℕ

@@ -1,3 +1,4 @@
+pub mod File
 pub mod Map
 pub mod Fields
 pub mod Table

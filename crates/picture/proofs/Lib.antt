@@ -3,4 +3,3 @@ pub mod Accepted
 pub mod Meaning
 pub mod Offsets
 pub mod Answers
-pub mod Figures

@@ -8,12 +8,12 @@ use lib.IntN.{pos, _-ℤ_}
 use lib.ListN.{getD}
 use Rattle.fields.specs.Fields.{getAll}
 use Rattle.chip.specs.Fields.{pictureFields}
+use Rattle.chip.specs.File.{wrongFile}
 use Rattle.reply.specs.Reply.{lowest, done, wrongLength, noPicture}
 use Rattle.scaler.specs.Answer.{fieldsOf, valuesOf}
 use Rattle.scaler.specs.Limits.{requestReply}
 use Rattle.scaler.specs.Numbers.{middleClock, centredLine}
 use Rattle.scaler.specs.declared.request.Request.{Request}
-use Rattle.picture.specs.Writing.{wrongFile}
 use Rattle.picture.specs.declared.read.Found.{Found}
 
 -- the numbers of a file's fields, and those that tell the request, by their order in the table of fields

@@ -1,22 +1,18 @@
 -- Document 01, "From picture to fields": a request written into a lent file.
 -- Assumes nothing.
-use mathlib.Core.Bool.{Bool, cond, not}
+use mathlib.Core.Bool.{Bool, cond}
 use mathlib.Core.List.{List, _∷_}
 use Prim.Native.Nat.{ℕ}
 use lib.Dec.{eqb}
-use lib.ListN.{length}
 use Rattle.fields.specs.Fields.{putAll}
 use Rattle.chip.specs.Fields.{pictureFields}
+use Rattle.chip.specs.File.{wrongFile}
 use Rattle.reply.specs.Reply.{lowest, done, wrongLength}
 use Rattle.scaler.specs.Answer.{fieldsOf, valuesOf}
 use Rattle.scaler.specs.Limits.{requestTests}
 use Rattle.scaler.specs.declared.request.Request.{Request}
 
--- 1: a lent file is exactly 256 bytes
-abbrev pub wrongFile : List ℕ → Bool
-wrongFile file = not (eqb (length file) 256)
-
--- then what the check refuses
+-- 1: a lent file is exactly 256 bytes; then what the check refuses
 unfoldable pub writeTests : List ℕ → Request → List (ℕ × Bool)
 writeTests file q = (wrongLength, wrongFile file) ∷ requestTests q
 

@@ -11,7 +11,7 @@ ghost use Rattle.picture.specs.Reading.{readAnswer, answerFor};
 use crate::values::get_values;
 use crate::values::same_values;
 use crate::values::values_of;
-use crate::write::FILE_LENGTH;
+use chip::file::FILE_LENGTH;
 use reply::DONE;
 use reply::NO_PICTURE;
 use reply::WRONG_LENGTH;

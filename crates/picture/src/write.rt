@@ -3,13 +3,11 @@ ghost use mathlib.Core.Path.{_≡_};
 ghost use Rattle.picture.specs.Writing.{writeReply, fileAfter};
 use crate::values::put_values;
 use crate::values::values_of;
+use chip::file::FILE_LENGTH;
 use reply::DONE;
 use reply::WRONG_LENGTH;
 use scaler::check::check;
 use scaler::request::Request;
-
-// A register file has so many bytes.
-pub const FILE_LENGTH: usize = 256;
 
 // The reply; the file has the request's numbers in its fields, or is as it was.
 pub fn write_picture(file: &mut [u8], request: Request) -> u8

@@ -45,6 +45,14 @@ wrongWeight = 8
 abbrev pub noPicture : ℕ
 noPicture = 9
 
+-- two files that differ in a bit that the map does not name, or in a caption byte
+abbrev pub notWritable : ℕ
+notWritable = 10
+
+-- a list of writes that is longer than the lent buffer
+abbrev pub tooLong : ℕ
+tooLong = 11
+
 -- a read of another place than the readable three
 abbrev pub notReadable : ℕ
 notReadable = 12

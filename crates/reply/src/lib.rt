@@ -30,5 +30,11 @@ pub const WRONG_WEIGHT: u8 = 8;
 // The file is no accepted picture's.
 pub const NO_PICTURE: u8 = 9;
 
+// Two files differ in a bit that the map does not name, or in a caption byte.
+pub const NOT_WRITABLE: u8 = 10;
+
+// A list of writes is longer than the lent buffer.
+pub const TOO_LONG: u8 = 11;
+
 // A read of another place than the readable three.
 pub const NOT_READABLE: u8 = 12;

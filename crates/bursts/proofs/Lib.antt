@@ -1,0 +1,11 @@
+pub mod Bridges
+pub mod Good
+pub mod Holding
+pub mod Covering
+pub mod Ahead
+pub mod Weights
+pub mod Spans
+pub mod Arriving
+pub mod Testing
+pub mod Unstuck
+pub mod Shortest

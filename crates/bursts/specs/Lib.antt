@@ -1,0 +1,4 @@
+pub mod Burst
+pub mod Runs
+pub mod Stuck
+pub mod Shortest

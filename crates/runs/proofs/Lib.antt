@@ -1,0 +1,7 @@
+pub mod Behind
+pub mod Finding
+pub mod Fixing
+pub mod Gaps
+pub mod Joining
+pub mod Opening
+pub mod Places
