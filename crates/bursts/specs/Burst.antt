@@ -1,6 +1,5 @@
--- Document 01, "The list of writes": bursts, what a list of them does to a file, and what it costs. The rule
--- of writing is that of a bus write, under any table of masks; so are the barred places and the end of the
--- places that a burst may write any.
+-- Document 01, "The list of writes": bursts, what a list of them does to a file, and what it costs. All of it
+-- is over any table of masks, any barred places, and any end of the places that a burst may write.
 -- Assumes nothing.
 use mathlib.Core.Path.{_≡_}
 use mathlib.Core.Bool.{Bool, false}

@@ -7,9 +7,12 @@ use Prim.Native.Nat.{ℕ}
 use lib.Dec.{eqb, leb}
 use lib.ListN.{length}
 
--- reply number 1: a lent file is exactly 256 bytes
+-- a register file has 256 places; reply number 1: a lent file is exactly so long
+abbrev pub fileLength : ℕ
+fileLength = 256
+
 abbrev pub wrongFile : List ℕ → Bool
-wrongFile file = not (eqb (length file) 256)
+wrongFile file = not (eqb (length file) fileLength)
 
 -- registers are written at 00h to FDh
 abbrev pub registersEnd : ℕ

@@ -1,7 +1,7 @@
 -- The reply to a plan: the four cases, and the answer and the buffer in each.
 -- Assumes nothing.
 use mathlib.Core.Path.{_≡_, sym, ap, _∙_}
-use mathlib.Core.Bool.{true, false, not, or-true}
+use mathlib.Core.Bool.{Bool, true, false, cond, not, or-true}
 use mathlib.Core.List.{List, _++_}
 use mathlib.Core.Logic.{⊎-elim}
 use Prim.Native.Nat.{ℕ, _<_, _≤_}
@@ -36,12 +36,14 @@ module _ (from to : List ℕ) (room : ℕ) where
   pub reply-long : AreFiles from to → stuck masks caption from to ≡ false → room < busBytes (listFor from to)
       → planReply from to room ≡ tooLong
   unfolding planReply planTests lowest
-  reply-long f s l = rw (eq-eqb _ _ (f .0), eq-eqb _ _ (f .1), s, lt-ltb _ _ l)
+  reply-long f s l =
+      rw (eq-eqb _ _ (f .0), eq-eqb _ _ (f .1), s) (ap (λ (b : Bool). cond b tooLong done) (lt-ltb _ _ l))
 
   pub reply-done : AreFiles from to → stuck masks caption from to ≡ false → busBytes (listFor from to) ≤ room
       → planReply from to room ≡ done
   unfolding planReply planTests lowest
-  reply-done f s l = rw (eq-eqb _ _ (f .0), eq-eqb _ _ (f .1), s, le-ltb _ _ l)
+  reply-done f s l =
+      rw (eq-eqb _ _ (f .0), eq-eqb _ _ (f .1), s) (ap (λ (b : Bool). cond b tooLong done) (le-ltb _ _ l))
 
   -- ---- which case it is
 

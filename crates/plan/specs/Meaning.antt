@@ -8,7 +8,7 @@ use lib.ListN.{length, drop}
 use Rattle.bursts.specs.Burst.{Burst, busBytes, encoded, Competes}
 use Rattle.bursts.specs.Shortest.{GetsThere, Shortest}
 use Rattle.bursts.specs.Stuck.{Stuck}
-use Rattle.chip.specs.File.{caption, registersEnd}
+use Rattle.chip.specs.File.{caption, fileLength, registersEnd}
 use Rattle.chip.specs.Map.{masks}
 use Rattle.reply.specs.Reply.{LowestMeans, done, wrongLength, notWritable, tooLong}
 use Rattle.plan.specs.Plan.{listFor, planTests, planAnswer, planBuffer}
@@ -16,7 +16,7 @@ use Rattle.plan.specs.declared.plan.Planned.{Planned}
 
 -- two register files
 abbrev pub AreFiles : List ℕ → List ℕ → Type 0
-AreFiles from to = (length from ≡ 256) × (length to ≡ 256)
+AreFiles from to = (length from ≡ fileLength) × (length to ≡ fileLength)
 
 -- a list of this chip's: it competes, and gets from the one file to the other
 pub record Candidate (from to : List ℕ) (list : List Burst) : Type 0 where
@@ -38,7 +38,7 @@ pub record PlanMeans (from to before : List ℕ) (answer : Planned) (after : Lis
   -- where it is neither, our list is the shortest of all lists
   pub shortest : (answer .reply ≡ wrongLength → ⊥) → (answer .reply ≡ notWritable → ⊥)
       → Shortest masks caption registersEnd from to (listFor from to)
-  -- and it is 11 exactly when the buffer is shorter than each list that gets there, the fewest bytes too
+  -- and it is 11 exactly when the buffer is shorter than every list that gets there, so than the fewest bytes
   pub eleven : (answer .reply ≡ wrongLength → ⊥) → (answer .reply ≡ notWritable → ⊥)
       → (answer .reply ≡ tooLong)
       ↔ ((list : List Burst) → Candidate from to list → length before < busBytes list)

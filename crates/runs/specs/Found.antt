@@ -9,17 +9,17 @@ use lib.ListN.{length, take}
 use Rattle.bursts.specs.Burst.{heading}
 use Rattle.bursts.specs.Runs.{Run, run, changed, runsFrom}
 use Rattle.bursts.specs.Stuck.{fixedAt, someFrom}
-use Rattle.chip.specs.File.{caption, registersEnd}
+use Rattle.chip.specs.File.{caption, fileLength, registersEnd}
 use Rattle.chip.specs.Map.{masks}
 use Rattle.runs.specs.declared.find.Extent.{Extent}
 use Rattle.runs.specs.declared.find.Found.{Found}
 
 -- the runs of the places from p on, and whether one of these places can't be written
 unfoldable pub runsAt : List ℕ → List ℕ → ℕ → List Run
-runsAt from to p = runsFrom (changed from to) caption p (256 - p)
+runsAt from to p = runsFrom (changed from to) caption p (fileLength - p)
 
 unfoldable pub stuckAt : List ℕ → List ℕ → ℕ → Bool
-stuckAt from to p = someFrom (fixedAt masks caption from to) p (256 - p)
+stuckAt from to p = someFrom (fixedAt masks caption from to) p (fileLength - p)
 
 -- the first run from its start on, which is changed
 pub record RunFound (from to : List ℕ) (start : ℕ) (r : Extent) : Type 0 where
@@ -27,9 +27,9 @@ pub record RunFound (from to : List ℕ) (start : ℕ) (r : Extent) : Type 0 whe
   pub stuck : stuckAt from to start ≡ (r .fixed || stuckAt from to (r .next))
   pub more : start < r .end
   -- behind it an unchanged place, unless the file ends
-  pub gap : r .next < 256 → r .end < r .next
-  pub inside : r .next ≤ 256
-  pub differs : r .next < 256 → changed from to (r .next) ≡ true
+  pub gap : r .next < fileLength → r .end < r .next
+  pub inside : r .next ≤ fileLength
+  pub differs : r .next < fileLength → changed from to (r .next) ≡ true
   -- a run that can be written ends with the registers
   pub low : r .fixed ≡ false → r .end ≤ registersEnd
 
@@ -49,5 +49,5 @@ pub record RunsFound (from to : List ℕ) (r : Found) (heads : List ℕ) : Type 
   pub none : r .fixed ≡ true → (r .bytes ≡ 0) × (r .bursts ≡ 0)
   pub bytes : r .fixed ≡ false → r .bytes ≡ runBytes (runsAt from to 0)
   pub bursts : r .fixed ≡ false → r .bursts ≡ length (runsAt from to 0)
-  pub few : r .fixed ≡ false → 2 * r .bursts ≤ 256
+  pub few : r .fixed ≡ false → 2 * r .bursts ≤ fileLength
   pub listed : r .fixed ≡ false → take (2 * r .bursts) heads ≡ headings (runsAt from to 0)

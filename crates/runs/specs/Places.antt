@@ -7,6 +7,7 @@ use Prim.Native.Nat.{ℕ, _+_, _<_, _≤_}
 use lib.Dec.{eqb}
 use lib.ListN.{length, getD}
 use Rattle.bursts.specs.Runs.{changed}
+use Rattle.chip.specs.File.{fileLength}
 use Rattle.chip.specs.Map.{masks}
 
 -- two files agree at a place, at four from a place on, and at eight
@@ -23,18 +24,18 @@ sameEight from to p = sameFour from to p && sameFour from to (p + 4)
 -- no place from p up to r is changed; r is at most 256
 pub record Unchanged (from to : List ℕ) (p r : ℕ) : Type 0 where
   pub above : p ≤ r
-  pub inside : r ≤ 256
+  pub inside : r ≤ fileLength
   pub same : (q : ℕ) → p ≤ q → q < r → changed from to q ≡ false
 
 -- so that r is the first changed place from p on, or 256 where there is none
 pub record NextChange (from to : List ℕ) (p r : ℕ) : Type 0 where
   pub passed : Unchanged from to p r
-  pub differs : r < 256 → changed from to r ≡ true
+  pub differs : r < fileLength → changed from to r ≡ true
 
 -- what a leaf asks that works at a changed place of two files
 pub record ChangeAt (table from to : List ℕ) (p : ℕ) : Type 0 where
   pub map : table ≡ masks
-  pub fromLong : length from ≡ 256
-  pub toLong : length to ≡ 256
-  pub low : p < 256
+  pub fromLong : length from ≡ fileLength
+  pub toLong : length to ≡ fileLength
+  pub low : p < fileLength
   pub differs : changed from to p ≡ true

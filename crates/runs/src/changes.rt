@@ -3,6 +3,7 @@
 ghost use mathlib.Core.Path.{_≡_};
 ghost use Prim.Native.Nat.{_+_, _≤_};
 ghost use lib.ListN.{length};
+ghost use Rattle.chip.specs.File.{fileLength};
 ghost use Rattle.runs.specs.Places.{sameFour, sameEight, Unchanged, NextChange};
 use chip::file::FILE_LENGTH;
 
@@ -26,7 +27,7 @@ fn same_eight(from: &[u8], to: &[u8], p: usize) -> bool
 
 // Past unchanged places, eight at a time.
 fn skip_eights(from: &[u8], to: &[u8], p: usize) -> usize
-    requires { ⌜ (length (now from) ≡ 256) × (length (now to) ≡ 256) × (p ≤ 256) ⌝ }
+    requires { ⌜ (length (now from) ≡ fileLength) × (length (now to) ≡ fileLength) × (p ≤ fileLength) ⌝ }
     ensures { λ r. ⌜ Unchanged (now (from .entry)) (now (to .entry)) p r ⌝ }
 {
     let mut q = p;
@@ -41,7 +42,7 @@ fn skip_eights(from: &[u8], to: &[u8], p: usize) -> usize
 
 // The first changed place from p on, or the file's length.
 pub fn next_change(from: &[u8], to: &[u8], p: usize) -> usize
-    requires { ⌜ (length (now from) ≡ 256) × (length (now to) ≡ 256) × (p ≤ 256) ⌝ }
+    requires { ⌜ (length (now from) ≡ fileLength) × (length (now to) ≡ fileLength) × (p ≤ fileLength) ⌝ }
     ensures { λ r. ⌜ NextChange (now (from .entry)) (now (to .entry)) p r ⌝ }
 {
     if FILE_LENGTH <= p {

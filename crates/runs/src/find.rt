@@ -6,7 +6,7 @@ ghost use Prim.Native.Nat.{_+_, _≤_, _<_};
 ghost use lib.ListN.{length};
 ghost use Rattle.bursts.specs.Runs.{changed, bridged};
 ghost use Rattle.bursts.specs.Stuck.{fixedAt};
-ghost use Rattle.chip.specs.File.{caption};
+ghost use Rattle.chip.specs.File.{caption, fileLength};
 ghost use Rattle.chip.specs.Map.{masks};
 ghost use Rattle.runs.specs.Found.{RunFound, RunsFound};
 ghost use Rattle.runs.specs.Places.{ChangeAt};
@@ -39,13 +39,13 @@ pub struct Found {
 // Whether a run that ends at `end` goes on at `next`. A gap that is bridged has two places at most, its first
 // and its last.
 fn goes_on(end: usize, next: usize) -> bool
-    requires { ⌜ end ≤ next ⌝ }
+    requires { ⌜ (end ≤ next) × (next ≤ fileLength) ⌝ }
     ensures { λ r. ⌜ r ≡ bridged caption end next ⌝ }
 {
     if next == end {
         return true;
     }
-    if BRIDGE < next - end {
+    if end + BRIDGE < next {
         return false;
     }
     !(is_caption(end) | is_caption(next - 1))
@@ -81,7 +81,8 @@ fn run_from(table: &[u8; 256], from: &[u8], to: &[u8], start: usize) -> Extent
 // Each run's start and count, one run behind the other, in `heads`. Nothing is told of them where a place
 // can't be written.
 pub fn find_runs(from: &[u8], to: &[u8], heads: &mut [u8]) -> Found
-    requires { ⌜ (length (now from) ≡ 256) × (length (now to) ≡ 256) × (length (now heads) ≡ 256) ⌝ }
+    requires { ⌜ (length (now from) ≡ fileLength) × (length (now to) ≡ fileLength)
+        × (length (now heads) ≡ fileLength) ⌝ }
     ensures { λ r. ⌜ RunsFound (now (from .entry)) (now (to .entry)) r (now (heads .exit)) ⌝ }
 {
     let table = mask_table();

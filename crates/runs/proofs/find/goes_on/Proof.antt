@@ -12,8 +12,8 @@ use Rattle.runs.proofs.find.goes_on.Tie as tie
 returns : tie.Need-returns
 returns c = rw (c .if1 .taken) (sym (bridged-here caption _))
 
-sub-if2 : tie.Need-sub-if2
-sub-if2 c = search needs
+add-if2 : tie.Need-add-if2
+add-if2 c = search needs
 
 returns-2 : tie.Need-returns-2
 returns-2 c = sym (wide-gap caption _ _ (omega arith))
@@ -37,7 +37,7 @@ goes-on-spec =
     tie.close
     (tie.spec
     returns
-    sub-if2
+    add-if2
     returns-2
     is-caption-requires
     sub-is-caption

@@ -42,7 +42,7 @@ loop-holds c =
     (s .pre .low) (s .pre .differs) (c .next-change .ensures))
 
 goes-on-requires : tie.Need-goes-on-requires Inv-loop μ-loop
-goes-on-requires c κs = c .before .loop .inv .behind .passed .above
+goes-on-requires c κs = let u = c .before .loop .inv .behind .passed in (u .above, u .inside)
 
 returns : tie.Need-returns Inv-loop μ-loop
 returns c =
