@@ -2,3 +2,4 @@ pub mod Digits
 pub mod Merging
 pub mod Runs
 pub mod Tests
+pub mod Stores

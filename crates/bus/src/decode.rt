@@ -16,7 +16,7 @@ const WRITE_ADDRESS: u8 = 0x88;
 const READ_ADDRESS: u8 = 0x89;
 
 // A run of registers ends before this subaddress.
-const REGISTERS_END: usize = 0xFE;
+pub const REGISTERS_END: usize = 0xFE;
 
 // The subaddresses of the cursor map and of the colour table.
 pub const CURSOR: u8 = 0xFE;

@@ -1,4 +1,3 @@
 pub mod File
 pub mod Map
 pub mod Fields
-pub mod Table

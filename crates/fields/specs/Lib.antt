@@ -1,5 +1,4 @@
 pub mod Piece
 pub mod Fields
 pub mod Laws
-pub mod Described
-pub mod Table
+pub mod Shapes

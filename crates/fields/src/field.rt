@@ -1,70 +1,70 @@
-// get_field and put_field: a field of a lent file. Its pieces come as three numbers each, place, position and
-// width, the lowest bits first. Both are leaves for other crates: the pieces must lie in the file.
+// Fields of a lent file, put and got by where their bits stand. Leaves for other crates: the bits must lie in
+// the file.
 ghost use mathlib.Core.Path.{_≡_};
-ghost use Prim.Native.Nat.{_<_};
-ghost use lib.ListN.{length, getD};
-ghost use Rattle.fields.specs.Piece.{getPiece, putPiece, get, put};
-ghost use Rattle.fields.specs.Described.{pieceAt, piecesOf, Lying, Described};
+ghost use Prim.Native.Nat.{_+_, _<_, _≤_};
+ghost use lib.ListN.{length};
+ghost use Rattle.fields.specs.Piece.{get, put};
+ghost use Rattle.fields.specs.Shapes.{bitsOf, splitOf, threeOf};
 use crate::piece::get_piece;
 use crate::piece::put_piece;
 
-// One number of the list, widened.
-fn number_at(numbers: &[u8], i: usize) -> u32
-    requires { ⌜ i < length (now numbers) ⌝ }
-    ensures { λ r. ⌜ r ≡ getD (now (numbers .entry)) i 0 ⌝ }
+// Bits of one place: the place, the lowest bit's position, and how many.
+pub struct Bits(pub usize, pub u32, pub u32);
+
+// A whole low byte, and the bits above it: the two places, and position and width in the second.
+pub struct Split(pub usize, pub usize, pub u32, pub u32);
+
+// The number goes into the bits; what does not fit them is left out, here and below.
+pub fn put_bits(file: &mut [u8], bits: Bits, value: u32)
+    requires { ⌜ (bits .0 < length (now file)) × (bits .1 + bits .2 ≤ 8) ⌝ }
+    ensures { λ _. ⌜ now (file .exit) ≡ put (now (file .entry)) (bitsOf bits) value ⌝ }
 {
-    numbers[i] as u32
+    let place = bits.0;
+    file[place] = put_piece(file[place], bits.1, bits.2, value);
 }
 
-// The number in the piece described at i.
-fn piece_at(file: &[u8], numbers: &[u8], i: usize) -> u32
-    requires { ⌜ Lying (now file) (now numbers) i ⌝ }
-    ensures { λ r. ⌜ r ≡ getPiece (now (file .entry)) (pieceAt (now (numbers .entry)) i) ⌝ }
+// The number that the bits hold.
+pub fn get_bits(file: &[u8], bits: Bits) -> u32
+    requires { ⌜ (bits .0 < length (now file)) × (bits .1 + bits .2 ≤ 8) ⌝ }
+    ensures { λ r. ⌜ r ≡ get (now (file .entry)) (bitsOf bits) ⌝ }
 {
-    let place = number_at(numbers, i) as usize;
-    let position = number_at(numbers, i + 1);
-    let width = number_at(numbers, i + 2);
-    get_piece(file[place], position, width)
+    let place = bits.0;
+    get_piece(file[place], bits.1, bits.2)
 }
 
-// The low bits of a number into the piece described at i.
-fn place_at(file: &mut [u8], numbers: &[u8], i: usize, value: u32)
-    requires { ⌜ Lying (now file) (now numbers) i ⌝ }
-    ensures { λ _. ⌜ now (file .exit)
-        ≡ putPiece (now (file .entry)) (pieceAt (now (numbers .entry)) i) value ⌝ }
+pub fn put_split(file: &mut [u8], split: Split, value: u32)
+    requires { ⌜ (split .0 < length (now file)) × (split .1 < length (now file))
+        × (split .2 + split .3 ≤ 8) ⌝ }
+    ensures { λ _. ⌜ now (file .exit) ≡ put (now (file .entry)) (splitOf split) value ⌝ }
 {
-    let place = number_at(numbers, i) as usize;
-    let position = number_at(numbers, i + 1);
-    let width = number_at(numbers, i + 2);
-    file[place] = put_piece(file[place], position, width, value);
+    put_bits(file, Bits(split.0, 0, 8), value);
+    put_bits(file, Bits(split.1, split.2, split.3), value >> 8);
 }
 
-// The number that the field holds.
-pub fn get_field(file: &[u8], numbers: &[u8]) -> u32
-    requires { ⌜ Described (now file) (now numbers) ⌝ }
-    ensures { λ r. ⌜ r ≡ get (now (file .entry)) (piecesOf (now (numbers .entry))) ⌝ }
+pub fn get_split(file: &[u8], split: Split) -> u32
+    requires { ⌜ (split .0 < length (now file)) × (split .1 < length (now file))
+        × (split .2 + split .3 ≤ 8) ⌝ }
+    ensures { λ r. ⌜ r ≡ get (now (file .entry)) (splitOf split) ⌝ }
 {
-    let mut value = 0;
-    let mut shift = 0;
-    let mut i = 0;
-    while i + 3 <= numbers.len() {
-        value += piece_at(file, numbers, i) << shift;
-        shift += number_at(numbers, i + 2);
-        i += 3;
-    }
-    value
+    let low = get_bits(file, Bits(split.0, 0, 8));
+    let high = get_bits(file, Bits(split.1, split.2, split.3));
+    (high << 8) + low
 }
 
-// The number goes into the field; what does not fit it is left out.
-pub fn put_field(file: &mut [u8], numbers: &[u8], value: u32)
-    requires { ⌜ Described (now file) (now numbers) ⌝ }
-    ensures { λ _. ⌜ now (file .exit) ≡ put (now (file .entry)) (piecesOf (now (numbers .entry))) value ⌝ }
+// Three whole bytes from a place on, the lowest first.
+pub fn put_three(file: &mut [u8], place: usize, value: u32)
+    requires { ⌜ place + 3 ≤ length (now file) ⌝ }
+    ensures { λ _. ⌜ now (file .exit) ≡ put (now (file .entry)) (threeOf place) value ⌝ }
 {
-    let mut rest = value;
-    let mut i = 0;
-    while i + 3 <= numbers.len() {
-        place_at(file, numbers, i, rest);
-        rest = rest >> number_at(numbers, i + 2);
-        i += 3;
-    }
+    put_bits(file, Bits(place, 0, 8), value);
+    put_split(file, Split(place + 1, place + 2, 0, 8), value >> 8);
+}
+
+pub fn get_three(file: &[u8], place: usize) -> u32
+    requires { ⌜ place + 3 ≤ length (now file) ⌝ }
+    ensures { λ r. ⌜ r ≡ get (now (file .entry)) (threeOf place) ⌝ }
+{
+    let low = get_bits(file, Bits(place, 0, 8));
+    let high = get_split(file, Split(place + 1, place + 2, 0, 8));
+    (high << 8) + low
 }

@@ -2,4 +2,3 @@
 // the pieces lie in the file.
 pub mod field;
 mod piece;
-pub mod table;

@@ -8,7 +8,6 @@ ghost use Rattle.chip.specs.Fields.{pictureFields};
 ghost use Rattle.scaler.specs.Numbers.{centredLine};
 ghost use Rattle.picture.specs.Reading.{standardIn, outlinIn, falIn, requestIn, notFound};
 ghost use Rattle.picture.specs.Reading.{readAnswer, answerFor};
-use crate::values::get_values;
 use crate::values::same_values;
 use crate::values::values_of;
 use chip::file::FILE_LENGTH;
@@ -20,6 +19,7 @@ use scaler::request::PixelClocks;
 use scaler::request::Request;
 use scaler::window::centred_line;
 use scaler::window::middle_clock;
+use table::get_values;
 
 // The reply, and the request, all 0 beside a refusal.
 pub struct Found {

@@ -3,28 +3,17 @@
 // those that show the other replies. Reply 8 is not among them: it is proved that none gives it.
 ghost use mathlib.Core.Path.{_≡_};
 ghost use lib.IntN.{natAbs};
-use libc::STDOUT_FILENO;
 use picture::read::read_picture;
 use picture::write::write_picture;
 use reply::DONE;
+use report::hex_byte;
+use report::number;
+use report::number_8;
+use report::word;
 use scaler::check::check;
 use scaler::request::Fields;
 use scaler::request::PixelClocks;
 use scaler::request::Request;
-
-fn word(text: &[u8]) {
-    io::write_all(STDOUT_FILENO, text);
-}
-
-// A name, and the number that it is the name of, by its width.
-fn number(name: &[u8], x: u64) {
-    word(name);
-    io::print_decimal(STDOUT_FILENO, x);
-}
-
-fn number_8(name: &[u8], x: u8) {
-    number(name, x as u64);
-}
 
 fn number_16(name: &[u8], x: u16) {
     number(name, x as u64);
@@ -46,12 +35,7 @@ fn signed(name: &[u8], x: i8) {
     if x < 0 {
         word(b"-");
     }
-    io::print_decimal(STDOUT_FILENO, distance(x));
-}
-
-fn hex_byte(x: u8) {
-    word(b" ");
-    io::print_hex(STDOUT_FILENO, x as u64, 2);
+    number(b"", distance(x));
 }
 
 fn show_request(q: Request) {

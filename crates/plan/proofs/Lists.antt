@@ -6,7 +6,8 @@ use mathlib.Core.List.{List, [], _∷_, _++_, map}
 use Prim.Native.Nat.{ℕ, _+_, _*_, _<_, _≤_}
 use native.Mathlib.Omega.{arith}
 use lib.ListN.{length, getD, take, drop, length-append, length-map}
-use lib.Seq.{sets, sets-eq}
+use lib.Seq.{sets}
+use Rattle.bits.proofs.Stores.{sets-front}
 use Rattle.bits.proofs.Tests.{is-true}
 use Rattle.bursts.specs.Burst.{Burst, heading, busBytes, encoded}
 use Rattle.bursts.specs.Runs.{Run, burstOf, burstsFor}
@@ -130,5 +131,4 @@ pub stored-are : (bs : List Burst) (before : List ℕ) → busBytes bs ≤ lengt
     → sets before 0 (encoded bs) ≡ encoded bs ++ drop (busBytes bs) before
 stored-are bs before l =
     let e = encoded-long bs in
-    let z : 0 + length (encoded bs) ≡ busBytes bs = omega arith in
-    sets-eq (encoded bs) before 0 (omega arith) ∙ rw z
+    sets-front (encoded bs) before (omega arith) ∙ rw e

@@ -1,23 +1,15 @@
 -- The list in the buffer, as it is written: what is left of the headings gives the whole.
 -- Assumes nothing.
 use mathlib.Core.Path.{_≡_, refl, sym, _∙_}
-use mathlib.Core.List.{List, [], _∷_, _++_}
+use mathlib.Core.List.{List, _∷_}
 use Prim.Native.Nat.{ℕ, suc, _+_, _*_, _<_, _≤_}
-use native.Mathlib.Nat.{add-zero}
 use native.Mathlib.Numerals.{add-one}
 use native.Mathlib.Omega.{arith}
 use lib.ListN.{length, getD, set, take, drop}
 use lib.ListN.{length-append, length-take, length-drop, length-set, drop-of-length-le}
 use lib.Seq.{sets, length-sets, drop-cons, getD-take, length-take-le}
+use Rattle.bits.proofs.Stores.{sets-append}
 use Rattle.plan.specs.Spelled.{spelled, HeadsFit}
-
--- a run of stores in two parts
-sets-append : (l : List ℕ) (i : ℕ) (xs ys : List ℕ) → sets l i (xs ++ ys) ≡ sets (sets l i xs)
-    (i + length xs) ys
-sets-append l i [] ys = rw add-zero
-sets-append l i (x ∷ xs) ys =
-    sets-append (set l i x) (suc i) xs ys
-    ∙ (let e : suc i + length xs ≡ i + suc (length xs) = omega arith in rw e)
 
 -- the data of a heading that lies in the file
 data-long : (to : List ℕ) (s n : ℕ) → s + n ≤ length to → length (take n (drop s to)) ≡ n

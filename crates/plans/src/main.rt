@@ -6,9 +6,12 @@ ghost use Prim.Native.Nat.{_<_, _≤_};
 ghost use lib.ListN.{length};
 use bits::store::store_run;
 use bus::state::State;
-use libc::STDOUT_FILENO;
 use picture::write::write_picture;
 use plan::plan::plan;
+use report::hex_bytes;
+use report::number;
+use report::number_8;
+use report::word;
 use scaler::request::PixelClocks;
 use scaler::request::Request;
 
@@ -20,30 +23,6 @@ const HEADING: usize = 2;
 
 // The longest transaction: a heading, and the places 00h to FDh.
 const LONGEST: usize = 256;
-
-fn word(text: &[u8]) {
-    io::write_all(STDOUT_FILENO, text);
-}
-
-// A name, and the number that it is the name of.
-fn number(name: &[u8], x: u64) {
-    word(name);
-    io::print_decimal(STDOUT_FILENO, x);
-}
-
-fn wide(x: u8) -> u64 {
-    x as u64
-}
-
-// Each byte as a space and two digits.
-fn hex_bytes(bytes: &[u8]) {
-    let mut i = 0;
-    while i < bytes.len() {
-        word(b" ");
-        io::print_hex(STDOUT_FILENO, wide(bytes[i]), 2);
-        i += 1;
-    }
-}
 
 // The bytes that a burst with so many data bytes has in a list.
 fn size_of(count: u8) -> usize
@@ -92,7 +71,7 @@ fn send(state: State, burst: &[u8]) -> State {
     let answer = state.write(front(&transaction, size));
     word(b"  burst");
     hex_bytes(burst);
-    number(b", write: ", wide(answer.reply));
+    number_8(b", write: ", answer.reply);
     word(b"\n");
     answer.state
 }
@@ -137,7 +116,7 @@ fn reaches(from: [u8; 256], to: &[u8], list: &[u8]) -> bool {
 fn show_plan(name: &[u8], from: &[u8], to: &[u8], buffer: &mut [u8]) -> usize {
     word(name);
     let planned = plan(from, to, buffer);
-    number(b"\n  plan: ", wide(planned.reply));
+    number_8(b"\n  plan: ", planned.reply);
     number(b", bytes ", planned.bytes as u64);
     number(b", bursts ", planned.bursts as u64);
     word(b"\n");

@@ -47,3 +47,14 @@ unfolding lowest applies rising
 lowest-means b [] r = record { given = λ n. absurd (n refl); least = λ n t. absurd t; none = λ e n t. t }
 lowest-means b (m ∷ ms) r =
     head b (m .0) (m .1) ms r (lowest-means (m .0) ms (and-iff (ltb b (m .0)) (rising (m .0) ms) .0 r .1))
+
+-- every number of a list is below n, and so is the one that is given
+unfoldable pub allBelow : ℕ → List (ℕ × Bool) → Bool
+allBelow n [] = true
+allBelow n (m ∷ ms) = ltb (m .0) n && allBelow n ms
+
+pub lowest-below : (n : ℕ) (ns : List (ℕ × Bool)) → 0 < n → T (allBelow n ns) → lowest ns < n
+unfolding lowest allBelow
+lowest-below n [] l t = l
+lowest-below n ((m, true) ∷ ms) l t = ltb→lt m n (and-iff (ltb m n) (allBelow n ms) .0 t .0)
+lowest-below n ((m, false) ∷ ms) l t = lowest-below n ms l (and-iff (ltb m n) (allBelow n ms) .0 t .1)

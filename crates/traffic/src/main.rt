@@ -1,39 +1,16 @@
 // Bus traffic with a fresh SAA7103: each transaction with its reply, and what the state then holds.
 use bus::cursor::cursor_row;
 use bus::state::State;
-use libc::STDOUT_FILENO;
-
-fn word(text: &[u8]) {
-    io::write_all(STDOUT_FILENO, text);
-}
-
-fn wide(x: u8) -> u64 {
-    x as u64
-}
-
-// Each byte as a space and two digits.
-fn hex_bytes(bytes: &[u8]) {
-    let mut i = 0;
-    while i < bytes.len() {
-        word(b" ");
-        io::print_hex(STDOUT_FILENO, wide(bytes[i]), 2);
-        i += 1;
-    }
-}
-
-// A name, and the bytes that it is the name of.
-fn show(name: &[u8], bytes: &[u8]) {
-    word(name);
-    hex_bytes(bytes);
-    word(b"\n");
-}
+use report::hex_bytes;
+use report::number_8;
+use report::show_bytes;
+use report::word;
 
 // A transaction, and the reply to it.
 fn replied(kind: &[u8], transaction: &[u8], reply: u8) {
     word(kind);
     hex_bytes(transaction);
-    word(b": ");
-    io::print_decimal(STDOUT_FILENO, wide(reply));
+    number_8(b": ", reply);
 }
 
 fn write(state: State, transaction: &[u8]) -> State {
@@ -47,7 +24,7 @@ fn read(state: State, transaction: &[u8]) -> State {
     let answer = state.read(transaction);
     replied(b"read", transaction, answer.reply);
     let byte = [answer.byte];
-    show(b"", &byte);
+    show_bytes(b"", &byte);
     answer.state
 }
 
@@ -55,13 +32,13 @@ fn read(state: State, transaction: &[u8]) -> State {
 fn show_part(name: &[u8], bytes: &[u8], start: usize, end: usize) {
     if end <= bytes.len() {
         if start <= end {
-            show(name, &bytes[start..end]);
+            show_bytes(name, &bytes[start..end]);
         }
     }
 }
 
 fn show_row(name: &[u8], map: &[u8], row: usize) {
-    show(name, cursor_row(map, row));
+    show_bytes(name, cursor_row(map, row));
 }
 
 // Named and unnamed bits, a run, the last place, and what is refused.

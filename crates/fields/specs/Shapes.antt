@@ -1,0 +1,19 @@
+-- The shapes that a field has in code, each with its pieces.
+-- Assumes nothing.
+use mathlib.Core.List.{[], _∷_}
+use Prim.Native.Nat.{ℕ, _+_}
+use Rattle.fields.specs.Piece.{Field, piece}
+use Rattle.fields.specs.declared.field.Bits.{Bits}
+use Rattle.fields.specs.declared.field.Split.{Split}
+
+-- bits of one place
+abbrev pub bitsOf : Bits → Field
+bitsOf b = piece (b .0) (b .1) (b .2) ∷ []
+
+-- a whole low byte, and the bits above it at another place
+abbrev pub splitOf : Split → Field
+splitOf s = piece (s .0) 0 8 ∷ piece (s .1) (s .2) (s .3) ∷ []
+
+-- three whole bytes from a place on
+abbrev pub threeOf : ℕ → Field
+threeOf p = piece p 0 8 ∷ piece (p + 1) 0 8 ∷ piece (p + 2) 0 8 ∷ []

@@ -1,0 +1,6 @@
+pub mod Effects
+pub mod Plays
+pub mod Fitting
+pub mod Playing
+pub mod Running
+pub mod Meaning
