@@ -2,7 +2,7 @@
 // written to standard output. Where a read or a write fails, a line on standard error says so; after a failed
 // read nothing is done, and nothing else is written.
 ghost use mathlib.Core.Path.{_≡_};
-ghost use Prim.Native.Nat.{_<_, _≤_};
+ghost use Prim.Native.Nat.{_+_};
 ghost use lib.ListN.{length, take};
 ghost use Rattle.io.specs.Counts.{Counts};
 ghost use Rattle.session.specs.Runs.{played, benchState, longestSession, longestPrint};
@@ -19,7 +19,7 @@ struct Input {
 // Reads into the front of a buffer until the input ends, the buffer is full or a read fails. There is room
 // for a byte more than the longest session, so that one that is too long is seen to be.
 fn read_session(buffer: &mut [u8]) -> Input
-    requires { ⌜ longestSession < length (now buffer) ⌝ }
+    requires { ⌜ length (now buffer) ≡ longestSession + 1 ⌝ }
     ensures { λ r. ⌜ Counts (r .bytes) (now (buffer .exit)) ⌝ }
 {
     let mut at = 0;
@@ -48,7 +48,7 @@ fn read_session(buffer: &mut [u8]) -> Input
 
 // A session done on a fresh SAA7103: what it prints is the front of the buffer. The answer is its length.
 fn do_session(session: &[u8], out: &mut [u8]) -> usize
-    requires { ⌜ longestPrint ≤ length (now out) ⌝ }
+    requires { ⌜ length (now out) ≡ longestPrint ⌝ }
     ensures { λ r. ⌜ Counts r (now (out .exit))
         × (take r (now (out .exit)) ≡ played benchState (now (session .entry)) .printed) ⌝ }
 {

@@ -1,10 +1,10 @@
 -- The shapes that a field has in code, each with its pieces.
 -- Assumes nothing.
 use mathlib.Core.List.{[], _∷_}
-use Prim.Native.Nat.{ℕ, _+_}
 use Rattle.fields.specs.Piece.{Field, piece}
 use Rattle.fields.specs.declared.field.Bits.{Bits}
 use Rattle.fields.specs.declared.field.Split.{Split}
+use Rattle.fields.specs.declared.field.Three.{Three}
 
 -- bits of one place
 abbrev pub bitsOf : Bits → Field
@@ -14,6 +14,6 @@ bitsOf b = piece (b .0) (b .1) (b .2) ∷ []
 abbrev pub splitOf : Split → Field
 splitOf s = piece (s .0) 0 8 ∷ piece (s .1) (s .2) (s .3) ∷ []
 
--- three whole bytes from a place on
-abbrev pub threeOf : ℕ → Field
-threeOf p = piece p 0 8 ∷ piece (p + 1) 0 8 ∷ piece (p + 2) 0 8 ∷ []
+-- three whole bytes, each at a place of its own
+abbrev pub threeOf : Three → Field
+threeOf t = piece (t .0) 0 8 ∷ piece (t .1) 0 8 ∷ piece (t .2) 0 8 ∷ []

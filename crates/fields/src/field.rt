@@ -14,6 +14,9 @@ pub struct Bits(pub usize, pub u32, pub u32);
 // A whole low byte, and the bits above it: the two places, and position and width in the second.
 pub struct Split(pub usize, pub usize, pub u32, pub u32);
 
+// Three whole bytes: their places, the lowest byte's first.
+pub struct Three(pub usize, pub usize, pub usize);
+
 // The number goes into the bits; what does not fit them is left out, here and below.
 pub fn put_bits(file: &mut [u8], bits: Bits, value: u32)
     requires { ⌜ (bits .0 < length (now file)) × (bits .1 + bits .2 ≤ 8) ⌝ }
@@ -51,20 +54,21 @@ pub fn get_split(file: &[u8], split: Split) -> u32
     (high << 8) + low
 }
 
-// Three whole bytes from a place on, the lowest first.
-pub fn put_three(file: &mut [u8], place: usize, value: u32)
-    requires { ⌜ place + 3 ≤ length (now file) ⌝ }
-    ensures { λ _. ⌜ now (file .exit) ≡ put (now (file .entry)) (threeOf place) value ⌝ }
+pub fn put_three(file: &mut [u8], three: Three, value: u32)
+    requires { ⌜ (three .0 < length (now file)) × (three .1 < length (now file))
+        × (three .2 < length (now file)) ⌝ }
+    ensures { λ _. ⌜ now (file .exit) ≡ put (now (file .entry)) (threeOf three) value ⌝ }
 {
-    put_bits(file, Bits(place, 0, 8), value);
-    put_split(file, Split(place + 1, place + 2, 0, 8), value >> 8);
+    put_bits(file, Bits(three.0, 0, 8), value);
+    put_split(file, Split(three.1, three.2, 0, 8), value >> 8);
 }
 
-pub fn get_three(file: &[u8], place: usize) -> u32
-    requires { ⌜ place + 3 ≤ length (now file) ⌝ }
-    ensures { λ r. ⌜ r ≡ get (now (file .entry)) (threeOf place) ⌝ }
+pub fn get_three(file: &[u8], three: Three) -> u32
+    requires { ⌜ (three .0 < length (now file)) × (three .1 < length (now file))
+        × (three .2 < length (now file)) ⌝ }
+    ensures { λ r. ⌜ r ≡ get (now (file .entry)) (threeOf three) ⌝ }
 {
-    let low = get_bits(file, Bits(place, 0, 8));
-    let high = get_split(file, Split(place + 1, place + 2, 0, 8));
+    let low = get_bits(file, Bits(three.0, 0, 8));
+    let high = get_split(file, Split(three.1, three.2, 0, 8));
     (high << 8) + low
 }

@@ -3,13 +3,13 @@
 use mathlib.Core.Path.{_≡_, refl, ap, sym, subst, _∙_}
 use mathlib.Core.Bool.{Bool, true, false, cond, not}
 use mathlib.Core.List.{List, [], _∷_}
-use mathlib.Core.Logic.{⊎-elim}
+use mathlib.Core.Logic.{inl, inr, ⊎-elim}
 use Prim.Native.Nat.{ℕ, zero, suc, _<_, _≤_}
 use native.Mathlib.Decide.{ℕ-discrete}
 use native.Mathlib.Omega.{arith}
 use borrow.Author.Tests.{eq-eqb, lt-ltb, le-ltb, lt-leb, le-leb}
 use Rattle.bits.proofs.Tests.{le-or-lt}
-use lib.Dec.{T, eqb, ltb}
+use lib.Dec.{eqb, ltb}
 use lib.ListN.{length, getD, take}
 use Rattle.reply.specs.Reply.{done, wrongLength, lowest}
 use Rattle.bus.specs.declared.state.State.{State}
@@ -34,7 +34,7 @@ use Rattle.requests.specs.Requests.{requestOf}
 use Rattle.lines.specs.Lines.{glyph, hex, addedByte, line}
 use Rattle.records.specs.Records.{bodyLength, whole}
 use Rattle.session.specs.Effects.{outcome, pictured, nothing, shown}
-use Rattle.session.specs.Meaning.{among, RecordMeans, SessionsMean}
+use Rattle.session.specs.Meaning.{Given, RecordMeans, SessionsMean}
 use Rattle.session.specs.Parts.{Body, Does}
 use Rattle.session.specs.Runs.{play, played, benchState, runAnswer, longestSession, longestPrint}
 use Rattle.session.proofs.Effects.{picture-does, body-long, last-kind, register-none, register-does}
@@ -118,18 +118,16 @@ module _ (s : State) (kind : ℕ) (body : List ℕ) (b : Body kind body) (byte :
 abbrev chosen : Bool → Bool → Bool → Bool → Bool → ℕ
 chosen a b c d e = cond a 4 (cond b 5 (cond c 6 (cond d 7 (cond e 8 0))))
 
-one-of : (a b c d e : Bool) → (chosen a b c d e ≡ 8 → ⊥)
-    → T (among (chosen a b c d e) (0 ∷ 4 ∷ 5 ∷ 6 ∷ 7 ∷ []))
-unfolding among
-one-of true b c d e n = tt
-one-of false true c d e n = tt
-one-of false false true d e n = tt
-one-of false false false true e n = tt
+one-of : (a b c d e : Bool) → (chosen a b c d e ≡ 8 → ⊥) → Given (chosen a b c d e)
+one-of true b c d e n = inr (inl refl)
+one-of false true c d e n = inr (inr (inl refl))
+one-of false false true d e n = inr (inr (inr (inl refl)))
+one-of false false false true e n = inr (inr (inr (inr refl)))
 one-of false false false false true n = absurd (n refl)
-one-of false false false false false n = tt
+one-of false false false false false n = inl refl
 
 picture-replies : (file : List ℕ) (q : Request) → length file ≡ 256
-    → T (among (picture.writeReply file q) (0 ∷ 4 ∷ 5 ∷ 6 ∷ 7 ∷ []))
+    → Given (picture.writeReply file q)
 unfolding picture.writeReply picture.writeTests requestReply requestTests lowest
 picture-replies file q l =
     let n : requestReply q ≡ 8 → ⊥ = λ e. answers-mean q .never (reply-is q ∙ e) in
@@ -137,14 +135,12 @@ picture-replies file q l =
     (clockPasses (q .standard) (q .inppl) (linesFor q)) (weightsPass (numFor q) (denFor q) (q .yskip)) n)
 
 all-replies : (s : State) (kind : ℕ) (body : List ℕ) → Sized s → Body kind body → Bytes body → Dec (kind ≡ 1)
-    → T (among (outcome s kind body .reply) (0 ∷ 4 ∷ 5 ∷ 6 ∷ 7 ∷ []))
-unfolding among
+    → Given (outcome s kind body .reply)
 all-replies s kind body z b l (yes e) =
-    subst (λ n. T (among n (0 ∷ 4 ∷ 5 ∷ 6 ∷ 7 ∷ [])))
-    (sym (done-as s kind body b (l 0) 0x01 _ _ _ _ e (picture-does body _ _ _)))
+    subst Given (sym (done-as s kind body b (l 0) 0x01 _ _ _ _ e (picture-does body _ _ _)))
     (picture-replies (s .file) (requestOf body) (z .file))
 all-replies s kind body z b l (no one) =
-    subst (λ n. T (among n (0 ∷ 4 ∷ 5 ∷ 6 ∷ 7 ∷ []))) (sym (all-others s kind body b (l 0) one)) tt
+    inl (all-others s kind body b (l 0) one)
 
 record-means : (s : State) (kind : ℕ) (body : List ℕ) → RecordMeans s kind body
 record-means s kind body =

@@ -1,10 +1,9 @@
 -- What sessions mean: theorems about the definitions of Effects.antt and Runs.antt.
 -- Assumes nothing.
 use mathlib.Core.Path.{_≡_}
-use mathlib.Core.Bool.{Bool, false, _||_}
 use mathlib.Core.List.{List, [], _∷_}
+use mathlib.Core.Logic.{_⊎_}
 use Prim.Native.Nat.{ℕ, _<_, _≤_}
-use lib.Dec.{T, eqb}
 use lib.ListN.{length}
 use Rattle.fields.specs.Laws.{Bytes}
 use Rattle.reply.specs.Reply.{done}
@@ -14,10 +13,9 @@ use Rattle.session.specs.Effects.{outcome}
 use Rattle.session.specs.Parts.{Body}
 use Rattle.session.specs.Runs.{played, benchState, runAnswer, longestSession, longestPrint}
 
--- whether a number is one of a list
-unfoldable pub among : ℕ → List ℕ → Bool
-among n [] = false
-among n (m ∷ ms) = eqb n m || among n ms
+-- a reply that a whole record can give
+abbrev pub Given : ℕ → Type 0
+Given r = (r ≡ 0) ⊎ ((r ≡ 4) ⊎ ((r ≡ 5) ⊎ ((r ≡ 6) ⊎ (r ≡ 7))))
 
 -- Any record, on any state.
 pub record RecordMeans (s : State) (kind : ℕ) (body : List ℕ) : Type 0 where
@@ -25,8 +23,7 @@ pub record RecordMeans (s : State) (kind : ℕ) (body : List ℕ) : Type 0 where
   pub refused : (outcome s kind body .reply ≡ done → ⊥) → outcome s kind body .state ≡ s
   pub sized : Sized s → Sized (outcome s kind body .state)
   -- a whole record replies 0, 4, 5, 6 or 7, each of which is one digit in decimal
-  pub replies : Sized s → Body kind body → Bytes body
-      → T (among (outcome s kind body .reply) (0 ∷ 4 ∷ 5 ∷ 6 ∷ 7 ∷ []))
+  pub replies : Sized s → Body kind body → Bytes body → Given (outcome s kind body .reply)
   -- and only 01 can be refused
   pub others : Body kind body → Bytes body → (kind ≡ 0x01 → ⊥) → outcome s kind body .reply ≡ done
 

@@ -7,6 +7,7 @@ ghost use Rattle.fields.specs.Fields.{getAll, putAll};
 ghost use Rattle.chip.specs.Fields.{pictureFields};
 use fields::field::Bits;
 use fields::field::Split;
+use fields::field::Three;
 use fields::field::get_bits;
 use fields::field::get_split;
 use fields::field::get_three;
@@ -24,8 +25,7 @@ const FAL: Split = Split(0x7A, 0x7C, 4, 1);
 
 const LAL: Split = Split(0x7B, 0x7C, 6, 1);
 
-// The first of three bytes.
-const PCL: usize = 0x81;
+const PCL: Three = Three(0x81, 0x82, 0x83);
 
 const XOFS: Split = Split(0x90, 0x94, 0, 2);
 

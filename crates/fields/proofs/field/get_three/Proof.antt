@@ -9,12 +9,6 @@ use Rattle.fields.proofs.field.get_three.Tie as tie
 get-bits-requires : tie.Need-get-bits-requires
 get-bits-requires c κs = search needs
 
-add-t6 : tie.Need-add-t6
-add-t6 c = search needs
-
-add-t7 : tie.Need-add-t7
-add-t7 c = search needs
-
 get-split-requires : tie.Need-get-split-requires
 get-split-requires c κs = search needs
 
@@ -29,4 +23,4 @@ returns c = rw (c .get-split .ensures, c .before .get-bits .ensures) (joined _ _
 
 pub get-three-spec : {M : Type 1} → statement M
 get-three-spec =
-    tie.close (tie.spec get-bits-requires add-t6 add-t7 get-split-requires add-result returns)
+    tie.close (tie.spec get-bits-requires get-split-requires add-result returns)

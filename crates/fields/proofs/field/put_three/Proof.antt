@@ -8,12 +8,6 @@ use Rattle.fields.proofs.field.put_three.Tie as tie
 put-bits-requires : tie.Need-put-bits-requires
 put-bits-requires c κs = search needs
 
-add-t10 : tie.Need-add-t10
-add-t10 c = search needs
-
-add-t11 : tie.Need-add-t11
-add-t11 c = search needs
-
 put-split-requires : tie.Need-put-split-requires
 put-split-requires c κs = search needs
 
@@ -28,4 +22,4 @@ returns c =
 
 pub put-three-spec : {M : Type 1} → statement M
 put-three-spec =
-    tie.close (tie.spec put-bits-requires add-t10 add-t11 put-split-requires same-length returns)
+    tie.close (tie.spec put-bits-requires put-split-requires same-length returns)

@@ -24,10 +24,10 @@ same-length c = search needs
 returns-2 : tie.Need-returns-2
 returns-2 c =
     let s = c .before .before .before .before .before .before .before .before .args .state in
-    let room = c .before .before .before .before .before .if1 .left in
-    let a = too-long _ _ _ room (c .before .before .before .before .if2 .taken) in
     let e = c .before .before .put-line .ensures in
     let n : c .before .before .put-line .result ≡ length (line 0x00 1 []) = omega (arith, e .1) in
+    let room = c .before .before .before .before .before .if1 .left in
+    let a = too-long _ _ _ room (c .before .before .before .before .if2 .taken) in
     (ap (λ b. record { state = s; bytes = b }) n ∙ a .told, e .0 ∙ a .kept)
 
 walk-requires : tie.Need-walk-requires
