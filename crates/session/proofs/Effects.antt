@@ -5,6 +5,7 @@ use mathlib.Core.Bool.{false}
 use mathlib.Core.List.{List, [], _∷_}
 use Prim.Native.Nat.{ℕ, suc, _+_, _<_, _≤_}
 use native.Mathlib.Decide.{ℕ-discrete}
+use native.Mathlib.Nat.{mod-self, div-self}
 use native.Mathlib.Omega.{arith}
 use borrow.Author.Tests.{eq-eqb, ne-eqb, lt-ltb, le-ltb}
 use lib.ListN.{length, getD, set}
@@ -15,7 +16,8 @@ use Rattle.reply.specs.Reply.{lowest}
 use Rattle.reply.proofs.Lowest.{allBelow, lowest-below}
 use Rattle.bus.specs.States.{stored, busWrite}
 use Rattle.bus.specs.Sending.{transaction}
-use Rattle.bus.specs.Writes.{fromStart, cellsPass, cellsRun, passes}
+use Rattle.bus.specs.declared.state.State.{State}
+use Rattle.bus.specs.Writes.{writeAddress, cursorAt, coloursAt, fromStart, cellsPass, cellsRun, passes}
 use Rattle.bus.specs.Writes.{writeTests as busTests, writeReply as busReply}
 use Rattle.bus.proofs.Sending.{sends-mean}
 use Rattle.scaler.specs.Limits.{requestTests}
@@ -93,37 +95,32 @@ register-does (place ∷ byte ∷ more ∷ body) file colours cursor n l = absur
 
 -- ---- 03 and 04
 
-pub colour-fits : (body : List ℕ) → length body ≡ 4 → getD body 0 0 < 256 → cellsPass 3 body ≡ false
+-- one cell of any width, with its start cell before it
+pub cell-fits : (width : ℕ) (body : List ℕ) → 0 < width → length body ≡ suc width → getD body 0 0 < 256
+    → cellsPass width body ≡ false
 unfolding cellsPass fromStart
-colour-fits [] n l = absurd (omega arith)
-colour-fits (cell ∷ bytes) n l =
-    let e : length bytes ≡ 3 = omega arith in
-    rw (e, le-ltb 256 (cell + 1) (omega arith))
+cell-fits width [] w n l = absurd (omega arith)
+cell-fits width (cell ∷ bytes) w n l =
+    let e : length bytes ≡ width = omega arith in
+    rw (e, mod-self width, div-self w, le-ltb 256 (cell + 1) (omega arith))
 
-pub cursor-fits : (body : List ℕ) → length body ≡ 2 → getD body 0 0 < 256 → cellsPass 1 body ≡ false
-unfolding cellsPass fromStart
-cursor-fits [] n l = absurd (omega arith)
-cursor-fits (cell ∷ bytes) n l =
-    let e : length bytes ≡ 1 = omega arith in
-    rw (e, le-ltb 256 (cell + 1) (omega arith))
+-- a write whose run does not pass its end is done
+write-done : (s : State) (subaddress : ℕ) (body : List ℕ) → passes subaddress body ≡ false
+    → busWrite s (writeAddress ∷ subaddress ∷ body) ≡ record { state = stored s subaddress body; reply = 0 }
+unfolding busWrite busReply busTests lowest
+write-done s subaddress body fits = rw (fits, le-ltb (suc (suc (length body))) 2 (omega arith))
 
 pub colour-does : (body file colours cursor : List ℕ) → cellsPass 3 body ≡ false
     → Does 0x03 body file colours cursor 0 file (cellsRun 3 colours body) cursor
-unfolding outcome busWrite stored busReply busTests lowest passes
+unfolding outcome stored passes
 colour-does body file colours cursor fits =
-    record {
-      outcome-is = λ status chip fifo. rw (fits, le-ltb (suc (suc (length body))) 2 (omega arith));
-      digit = omega arith;
-    }
+    record { outcome-is = λ status chip fifo. write-done _ coloursAt body fits; digit = omega arith }
 
 pub cursor-does : (body file colours cursor : List ℕ) → cellsPass 1 body ≡ false
     → Does 0x04 body file colours cursor 0 file colours (cellsRun 1 cursor body)
-unfolding outcome busWrite stored busReply busTests lowest passes
+unfolding outcome stored passes
 cursor-does body file colours cursor fits =
-    record {
-      outcome-is = λ status chip fifo. rw (fits, le-ltb (suc (suc (length body))) 2 (omega arith));
-      digit = omega arith;
-    }
+    record { outcome-is = λ status chip fifo. write-done _ cursorAt body fits; digit = omega arith }
 
 -- ---- 05
 

@@ -38,7 +38,7 @@ use Rattle.session.specs.Meaning.{Given, RecordMeans, SessionsMean}
 use Rattle.session.specs.Parts.{Body, Does}
 use Rattle.session.specs.Runs.{play, played, benchState, runAnswer, longestSession, longestPrint}
 use Rattle.session.proofs.Effects.{picture-does, body-long, last-kind, register-none, register-does}
-use Rattle.session.proofs.Effects.{colour-fits, cursor-fits, colour-does, cursor-does, show-does}
+use Rattle.session.proofs.Effects.{cell-fits, colour-does, cursor-does, show-does}
 use Rattle.session.proofs.Fitting.{session-fits, line-long}
 use Rattle.session.proofs.Plays.{play-done, play-broken}
 
@@ -102,10 +102,10 @@ module _ (s : State) (kind : ℕ) (body : List ℕ) (b : Body kind body) (byte :
   others one (yes e) three four = register-done e
   others one (no two) (yes e) four =
       done-as 0x03 0 _ _ _ e
-      (colour-does body _ _ _ (colour-fits body (body-long kind 3 body b e) byte))
+      (colour-does body _ _ _ (cell-fits 3 body (omega arith) (body-long kind 3 body b e) byte))
   others one (no two) (no three) (yes e) =
       done-as 0x04 0 _ _ _ e
-      (cursor-does body _ _ _ (cursor-fits body (body-long kind 4 body b e) byte))
+      (cursor-does body _ _ _ (cell-fits 1 body (omega arith) (body-long kind 4 body b e) byte))
   others one (no two) (no three) (no four) =
       done-as 0x05 0 _ _ _ (last-kind kind body b one two three four) (show-does body _ _ _)
 

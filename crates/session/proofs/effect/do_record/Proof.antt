@@ -7,7 +7,7 @@ use lib.ListN.{length}
 use Rattle.records.specs.Records.{bodyLength}
 use Rattle.session.proofs.Effects.{body-long, last-kind, masks-long}
 use Rattle.session.proofs.Effects.{picture-does, register-none, register-does}
-use Rattle.session.proofs.Effects.{colour-fits, cursor-fits, colour-does, cursor-does, show-does}
+use Rattle.session.proofs.Effects.{cell-fits, colour-does, cursor-does, show-does}
 use Rattle.session.proofs.effect.do_record.Statement.{statement}
 use Rattle.session.proofs.effect.do_record.Tie as tie
 
@@ -89,7 +89,7 @@ write-cells-requires c κs =
     let s = c .before .before .before .before .before .before .before .before .before in
     let first = c .before .before .before .before .shared-slice-known2 .given 0 in
     let n = body-long _ 0x03 _ (s .pre .2) (c .before .if4 .taken) in
-    (omega arith, s .pre .1 .colours-long, colour-fits _ n (omega arith))
+    (omega arith, s .pre .1 .colours-long, cell-fits 3 _ (omega arith) n (omega arith))
 
 same-length-3 : tie.Need-same-length-3
 same-length-3 c = search needs
@@ -102,7 +102,7 @@ returns-4 c =
     let first = k .before .before .before .shared-slice-known2 .given 0 in
     let n = body-long _ 0x03 _ (s .pre .2) (k .if4 .taken) in
     rw (c .before .before .write-cells .ensures, k .if4 .taken)
-    (colour-does _ _ _ _ (colour-fits _ n (omega arith)))
+    (colour-does _ _ _ _ (cell-fits 3 _ (omega arith) n (omega arith)))
 
 write-cells-requires-2 : tie.Need-write-cells-requires-2
 unfolding bodyLength
@@ -110,7 +110,7 @@ write-cells-requires-2 c κs =
     let s = c .before .before .before .before .before .before .before .before .before .before in
     let first = c .before .before .before .before .before .shared-slice-known2 .given 0 in
     let n = body-long _ 0x04 _ (s .pre .2) (c .before .if5 .taken) in
-    (omega arith, s .pre .1 .cursor-long, cursor-fits _ n (omega arith))
+    (omega arith, s .pre .1 .cursor-long, cell-fits 1 _ (omega arith) n (omega arith))
 
 same-length-4 : tie.Need-same-length-4
 same-length-4 c = search needs
@@ -123,7 +123,7 @@ returns-5 c =
     let first = k .before .before .before .before .shared-slice-known2 .given 0 in
     let n = body-long _ 0x04 _ (s .pre .2) (k .if5 .taken) in
     rw (c .before .before .write-cells2 .ensures, k .if5 .taken)
-    (cursor-does _ _ _ _ (cursor-fits _ n (omega arith)))
+    (cursor-does _ _ _ _ (cell-fits 1 _ (omega arith) n (omega arith)))
 
 returns-6 : tie.Need-returns-6
 returns-6 c =
