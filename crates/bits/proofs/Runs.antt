@@ -86,6 +86,14 @@ pub run-more : (masks file : List ℕ) (at b : ℕ) (bytes : List ℕ)
 unfolding mergeRun
 run-more masks file at b bytes = refl
 
+-- a run of one byte sets its place
+pub run-one : (masks file : List ℕ) (at : ℕ) (bytes : List ℕ) → length bytes ≡ 1
+    → mergeRun masks file at bytes ≡ set file at (masked masks at (getD file at 0) (getD bytes 0 0))
+unfolding mergeRun
+run-one masks file at [] e = absurd (omega arith)
+run-one masks file at (b ∷ []) e = refl
+run-one masks file at (b ∷ c ∷ bytes) e = absurd (omega arith)
+
 -- a place is outside a run, or it is one of its places
 place-cases : (p at n : ℕ) → ((p < at) ⊎ (at + n ≤ p)) ⊎ ((i : ℕ) × (i < n) × (p ≡ at + i))
 place-cases p at n = before (decLt p at)

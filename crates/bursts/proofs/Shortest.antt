@@ -11,7 +11,7 @@ use lib.ListN.{length, getD, replicate, length-replicate, List·getD-eq-default}
 use lib.Seq.{ext-getD}
 use Rattle.bits.specs.Bit.{bit}
 use Rattle.bits.proofs.Merging.{merge-same}
-use Rattle.bursts.specs.Burst.{Burst, heading, replay, Every, Competes, CarriedBy}
+use Rattle.bursts.specs.Burst.{Burst, heading, replay, Every, Competes, CarriedBy, busBytes}
 use Rattle.bursts.specs.Runs.{Run, bridge, changed, runsFrom, burstsFor}
 use Rattle.bursts.specs.Stuck.{Stuck}
 use Rattle.bursts.specs.Shortest.{GetsThere, Shortest, Files, WholeMap, ListLaws}
@@ -116,6 +116,16 @@ module _ (masks : List ℕ) (barred : ℕ → Bool) (end : ℕ) (from to : List 
         let f = competes-fair barred end (length from) (files .inside) other g in
         rw our-spans (least h l k (changed from to) barred free (length from) (spans other) f
         (arrived-holds masks from to other a))
+
+    -- and so do any runs that hold every changed place
+    pub cover-heavier : (rs : List Run) → Fair barred (length from) rs
+        → ((q : ℕ) → changed from to q ≡ true → Within q rs)
+        → busBytes (burstsFor barred from to) ≤ weight heading rs
+    unfolding ours runs
+    cover-heavier rs f w =
+        let l : weight heading (spans ours) ≤ weight heading rs = rw our-spans
+        (least heading (omega arith) (omega arith) (changed from to) barred free (length from) rs f w) in
+        omega (arith, bytes-weight ours)
 
     shortest : Shortest masks barred end from to (burstsFor barred from to)
     unfolding ours runs burstsFor

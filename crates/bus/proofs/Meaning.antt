@@ -2,25 +2,23 @@
 -- Assumes nothing.
 use mathlib.Core.Path.{_≡_, refl, _∙_}
 use mathlib.Core.Bool.{Bool, true, false, cond}
-use mathlib.Core.List.{List, [], _∷_}
-use Prim.Native.Nat.{ℕ, _*_, _<_}
+use mathlib.Core.List.{List, _∷_}
+use Prim.Native.Nat.{ℕ, _<_}
 use native.Mathlib.Omega.{arith}
 use borrow.Author.Tests.{ne-eqb}
 use lib.Dec.{eqb}
 use lib.ListN.{length, getD, drop, length-replicate}
-use lib.Seq.{length-sets}
 use Rattle.bits.specs.Run.{mergeRun}
 use Rattle.bits.proofs.Runs.{run-law, rule-long, masked, run-none, run-more}
 use Rattle.chip.specs.Map.{masks}
+use Rattle.transactions.specs.Writes.{writeReply}
+use Rattle.transactions.proofs.Accepted.{accepted, registers-fit, registers-end}
+use Rattle.transactions.proofs.Accepted.{cursor-fits, colours-fit, cells-fit}
+use Rattle.writers.proofs.Cells.{cells-mean, cells-long}
 use Rattle.bus.specs.declared.state.State.{State}
 use Rattle.bus.specs.declared.state.Answer.{Answer}
-use Rattle.bus.specs.Writes.{fromStart, writeReply, cellsRun}
 use Rattle.bus.specs.States.{zeroState, knownChip, freshAnswer, stored, busWrite}
 use Rattle.bus.specs.Meaning.{AnyWrite, RegisterWrite, CursorWrite, ColourWrite, Sized, WritesMean}
-use Rattle.bus.specs.Meaning.{RepliesMean}
-use Rattle.bus.proofs.Accepted.{write-lowest, read-lowest, accepted, registers-fit, registers-end}
-use Rattle.bus.proofs.Accepted.{cursor-fits, colours-fit, cells-fit}
-use Rattle.bus.proofs.Cells.{cells-mean}
 
 -- a readable byte, or any part that no target of a write has, is the same in each of the three states and in
 -- the old one
@@ -59,7 +57,7 @@ register-write s t z e l =
 cursor-write : (s : State) (start : ℕ) (bytes : List ℕ) → Sized s → writeReply (0x88 ∷ 0xFE ∷ start ∷ bytes)
     ≡ 0
     → CursorWrite s start bytes (busWrite s (0x88 ∷ 0xFE ∷ start ∷ bytes) .state)
-unfolding busWrite stored cellsRun fromStart
+unfolding busWrite stored
 cursor-write s start bytes z e =
     let t : List ℕ = 0x88 ∷ 0xFE ∷ start ∷ bytes in
     let f = cells-fit 1 (s .cursor) (start ∷ bytes) (omega arith) (z .cursor)
@@ -69,7 +67,7 @@ cursor-write s start bytes z e =
 colour-write : (s : State) (start : ℕ) (bytes : List ℕ) → Sized s → writeReply (0x88 ∷ 0xFF ∷ start ∷ bytes)
     ≡ 0
     → ColourWrite s start bytes (busWrite s (0x88 ∷ 0xFF ∷ start ∷ bytes) .state)
-unfolding busWrite stored cellsRun fromStart
+unfolding busWrite stored
 colour-write s start bytes z e =
     let t : List ℕ = 0x88 ∷ 0xFF ∷ start ∷ bytes in
     let f = cells-fit 3 (s .colours) (start ∷ bytes) (omega arith) (z .colours)
@@ -94,11 +92,6 @@ sized-fresh false a b sa sb = sb
 fresh-sized : (chip : ℕ) → Sized (freshAnswer chip .state)
 unfolding freshAnswer
 fresh-sized chip = sized-fresh (knownChip chip) _ _ (sized-zeros chip) (sized-zeros 0)
-
-cells-long : (width : ℕ) (map bytes : List ℕ) → length (cellsRun width map bytes) ≡ length map
-unfolding cellsRun fromStart
-cells-long width map [] = refl
-cells-long width map (start ∷ bytes) = length-sets map (width * start) bytes
 
 write-sized : (s : State) (t : List ℕ) → Sized s → Sized (busWrite s t .state)
 unfolding busWrite stored
@@ -126,6 +119,3 @@ writes-mean =
       cursor = cursor-write;
       colours = colour-write;
     }
-
-pub replies-mean : RepliesMean
-replies-mean = record { write = write-lowest; read = read-lowest }

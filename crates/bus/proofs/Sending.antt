@@ -12,8 +12,8 @@ use Rattle.bursts.specs.Burst.{Burst, count, replay, Every, Competes}
 use Rattle.chip.specs.File.{registersEnd}
 use Rattle.chip.specs.Map.{masks}
 use Rattle.reply.specs.Reply.{lowest, done}
+use Rattle.transactions.specs.Writes.{registersPass, passes, writeTests, writeReply}
 use Rattle.bus.specs.declared.state.State.{State}
-use Rattle.bus.specs.Writes.{registersPass, passes, writeTests, writeReply}
 use Rattle.bus.specs.States.{withFile, stored, busWrite}
 use Rattle.bus.specs.Sending.{transaction, sent, SendsMean}
 

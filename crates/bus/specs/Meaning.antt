@@ -1,23 +1,15 @@
--- What bus writes mean, place by place, and the replies: theorems about the definitions of Writes.antt,
--- States.antt and Reads.antt.
+-- What bus writes mean, place by place: theorems about the definitions of States.antt.
 -- Assumes nothing.
 use mathlib.Core.Path.{_≡_}
 use mathlib.Core.List.{List, _∷_}
-use mathlib.Core.Logic.{_⊎_}
-use Prim.Native.Nat.{ℕ, _+_, _*_, _<_, _≤_}
+use Prim.Native.Nat.{ℕ, _<_}
 use lib.ListN.{length, getD, drop}
 use Rattle.bits.specs.Run.{RunMeans}
 use Rattle.chip.specs.Map.{masks}
-use Rattle.reply.specs.Reply.{LowestMeans}
+use Rattle.transactions.specs.Writes.{writeReply}
+use Rattle.writers.specs.Cells.{CellsMean}
 use Rattle.bus.specs.declared.state.State.{State}
-use Rattle.bus.specs.Writes.{writeTests, writeReply}
-use Rattle.bus.specs.Reads.{readTests}
 use Rattle.bus.specs.States.{withFile, withColours, withCursor, freshAnswer, busWrite}
-
--- The reply is the lowest number that applies.
-pub record RepliesMean : Type 0 where
-  pub write : (t : List ℕ) → LowestMeans (writeTests t)
-  pub read : (t : List ℕ) → LowestMeans (readTests t)
 
 -- Any write: a refusal changes nothing, and no write changes a readable byte.
 pub record AnyWrite (s : State) (t : List ℕ) (after : State) : Type 0 where
@@ -31,15 +23,6 @@ pub record AnyWrite (s : State) (t : List ℕ) (after : State) : Type 0 where
 pub record RegisterWrite (s : State) (subaddress : ℕ) (bytes : List ℕ) (after : State) : Type 0 where
   pub run : RunMeans masks (s .file) subaddress bytes (after .file)
   pub rest : after ≡ withFile s (after .file)
-
--- Cells of `width` bytes from a start cell on, in a map: byte h of cell start + k is byte width x k + h of
--- the bytes.
-pub record CellsMean (width : ℕ) (map : List ℕ) (start : ℕ) (bytes after : List ℕ) : Type 0 where
-  pub long : length after ≡ length map
-  pub inside : (k h : ℕ) → width * k + h < length bytes
-      → getD after (width * (start + k) + h) 0 ≡ getD bytes (width * k + h) 0
-  pub outside : (p : ℕ) → (p < width * start) ⊎ (width * start + length bytes ≤ p)
-      → getD after p 0 ≡ getD map p 0
 
 -- An accepted write of the cursor map or of the colour table, whose data is a start cell and then bytes.
 pub record CursorWrite (s : State) (start : ℕ) (bytes : List ℕ) (after : State) : Type 0 where

@@ -10,8 +10,8 @@ use Rattle.bursts.specs.Burst.{Burst, count, replay, Competes}
 use Rattle.chip.specs.File.{registersEnd}
 use Rattle.chip.specs.Map.{masks}
 use Rattle.reply.specs.Reply.{done}
+use Rattle.transactions.specs.Writes.{writeAddress}
 use Rattle.bus.specs.declared.state.State.{State}
-use Rattle.bus.specs.Writes.{writeAddress}
 use Rattle.bus.specs.States.{withFile, busWrite}
 
 -- a burst on the bus: the write address, the subaddress and the data

@@ -1,6 +1,6 @@
 -- Document 01, "The part of the chip we use": the state, a fresh one, and the readable bytes that the caller
 -- sets.
--- "Bus writes and reads": what a write does to it.
+-- "Bus writes and reads": what a write does to it, and what a read gives.
 -- Assumes nothing.
 use mathlib.Core.Bool.{Bool, cond, _||_}
 use mathlib.Core.List.{List}
@@ -10,9 +10,12 @@ use lib.ListN.{getD, drop, replicate}
 use Rattle.bits.specs.Run.{mergeRun}
 use Rattle.chip.specs.Map.{masks}
 use Rattle.reply.specs.Reply.{done, wrongRequest}
+use Rattle.transactions.specs.Writes.{byTarget, cursorCell, colourCell, writeReply}
+use Rattle.transactions.specs.Reads.{readReply, byteOf}
+use Rattle.writers.specs.Cells.{cellsRun}
 use Rattle.bus.specs.declared.state.State.{State}
 use Rattle.bus.specs.declared.state.Answer.{Answer}
-use Rattle.bus.specs.Writes.{byTarget, cursorCell, colourCell, writeReply, cellsRun}
+use Rattle.bus.specs.declared.state.ReadAnswer.{ReadAnswer}
 
 -- a state with one part anew
 abbrev pub withFile : State → List ℕ → State
@@ -107,4 +110,13 @@ busWrite s t =
     record {
       state = cond (eqb (writeReply t) done) (stored s (getD t 1 0) (drop 2 t)) s;
       reply = writeReply t;
+    }
+
+-- a bus read: it changes nothing, and beside a refusal the byte is 0
+unfoldable pub busRead : State → List ℕ → ReadAnswer
+busRead s t =
+    record {
+      state = s;
+      reply = readReply t;
+      byte = cond (eqb (readReply t) done) (byteOf (s .status) (s .chip) (s .fifo) (getD t 1 0)) 0;
     }

@@ -1,6 +1,2 @@
-// The state of the chip, and bus writes and reads on it; the rows of the cursor map.
-pub mod cursor;
-pub mod decode;
-mod start;
+// The state of the chip, and bus writes and reads on it.
 pub mod state;
-pub mod store;

@@ -1,19 +1,18 @@
 // State: the file, the colour table, the cursor map and the three readable bytes.
 ghost use mathlib.Core.Path.{_≡_};
-ghost use Rattle.bus.specs.States.{zeroState, freshAnswer, withStatus, withFifo, busWrite};
-ghost use Rattle.bus.specs.Reads.{byteOf, busRead};
-use crate::decode::CHIP;
-use crate::decode::COLOUR_CELL;
-use crate::decode::COLOURS;
-use crate::decode::CURSOR;
-use crate::decode::CURSOR_CELL;
-use crate::decode::STATUS;
-use crate::decode::read_reply;
-use crate::decode::write_reply;
-use crate::store::write_cells;
-use crate::store::write_registers;
+ghost use Rattle.bus.specs.States.{knownChip, zeroState, freshAnswer, withStatus, withFifo};
+ghost use Rattle.bus.specs.States.{busWrite, busRead};
 use reply::DONE;
 use reply::WRONG_REQUEST;
+use transactions::decode::COLOUR_CELL;
+use transactions::decode::COLOURS;
+use transactions::decode::CURSOR;
+use transactions::decode::CURSOR_CELL;
+use transactions::decode::write_reply;
+use transactions::read::read_reply;
+use transactions::read::readable_byte;
+use writers::write_cells;
+use writers::write_registers;
 
 pub struct State {
     pub file: [u8; 256],
@@ -44,6 +43,12 @@ const SAA7102: u8 = 0x02;
 
 const SAA7103: u8 = 0x03;
 
+pub fn known_chip(chip: u8) -> bool
+    ensures { λ r. ⌜ r ≡ knownChip chip ⌝ }
+{
+    (chip == SAA7102) | (chip == SAA7103)
+}
+
 fn zeros(chip: u8) -> State
     ensures { λ r. ⌜ r ≡ zeroState chip ⌝ }
 {
@@ -57,25 +62,12 @@ fn zeros(chip: u8) -> State
     }
 }
 
-// The byte at a readable place.
-fn readable_byte(place: u8, status: u8, chip: u8, fifo: u8) -> u8
-    ensures { λ r. ⌜ r ≡ byteOf status chip fifo place ⌝ }
-{
-    if place == STATUS {
-        return status;
-    }
-    if place == CHIP {
-        return chip;
-    }
-    fifo
-}
-
 impl State {
     // A fresh state of a chip; another chip byte than the two is refused, with a state that is all zero.
     pub fn fresh(chip: u8) -> Answer
         ensures { λ r. ⌜ r ≡ freshAnswer chip ⌝ }
     {
-        if (chip == SAA7102) | (chip == SAA7103) {
+        if known_chip(chip) {
             return Answer {
                 state: zeros(chip),
                 reply: DONE,

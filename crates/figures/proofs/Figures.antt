@@ -11,8 +11,8 @@ use Rattle.reply.specs.Reply.{lowest}
 use Rattle.bursts.specs.Burst.{busBytes, encoded}
 use Rattle.bursts.specs.Runs.{changed, clear, bridged, joined, withPlace, runsFrom, burstOf, burstsFor}
 use Rattle.bursts.specs.Stuck.{bitsAgree, fixedAt, someFrom, stuck}
+use Rattle.transactions.specs.Writes as writes
 use Rattle.bus.specs.States.{busWrite}
-use Rattle.bus.specs.Writes as bus
 use Rattle.scaler.specs.Answer.{fieldsOf, valuesOf, noFields, refusal, checked}
 use Rattle.scaler.specs.Limits.{clockPasses, outside, weightsPass, requestTests, requestReply}
 use Rattle.scaler.specs.Limits.{wrongSource, pixelsHold, linesHold, offsetHolds, outputHolds, numbersPass}
@@ -30,6 +30,6 @@ unfolding lowest roundUp nearest adwhsOf adwheOf centredLine falOf lalOf hlenOf 
     checked putPiece withBits put putAll pictureFields bit number writeTests writeReply written fileAfter
     printed namedAt masksFrom masks caption busBytes encoded changed clear bridged joined withPlace runsFrom
     burstOf burstsFor bitsAgree fixedAt someFrom stuck plan.planTests plan.planReply plan.refusal
-    plan.planAnswer busWrite bus.registersPass bus.passes bus.writeTests bus.writeReply changedAt figures
-    answered given
+    plan.planAnswer busWrite writes.registersPass writes.passes writes.writeTests writes.writeReply changedAt
+    figures answered given
 figures-hold s a b = refl

@@ -11,15 +11,16 @@ const SPACE: u8 = 0x20;
 
 const LINE_END: u8 = 0x0A;
 
+// The character of 0, with those of 1 to 9 behind it.
+const ZERO: u8 = 0x30;
+
 // The character of a digit: 0 to 9, then a to f.
 fn character(digit: u8) -> u8
     requires { ⌜ digit < 16 ⌝ }
     ensures { λ r. ⌜ r ≡ glyph digit ⌝ }
 {
-    if digit < 10 {
-        return 0x30 + digit;
-    }
-    0x57 + digit
+    let characters = b"0123456789abcdef";
+    characters[digit as usize]
 }
 
 // A line of kind and reply. The answer is the place behind it.
@@ -31,7 +32,7 @@ pub fn put_line(out: &mut [u8], at: usize, kind: u8, reply: u8) -> usize
     out[at] = character(kind / 16);
     out[at + 1] = character(kind % 16);
     out[at + 2] = SPACE;
-    out[at + 3] = character(reply);
+    out[at + 3] = ZERO + reply;
     out[at + 4] = LINE_END;
     at + 5
 }
@@ -45,7 +46,7 @@ pub fn put_line_with(out: &mut [u8], at: usize, kind: u8, reply: u8, byte: u8) -
     out[at] = character(kind / 16);
     out[at + 1] = character(kind % 16);
     out[at + 2] = SPACE;
-    out[at + 3] = character(reply);
+    out[at + 3] = ZERO + reply;
     out[at + 4] = SPACE;
     out[at + 5] = character(byte / 16);
     out[at + 6] = character(byte % 16);

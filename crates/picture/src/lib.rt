@@ -1,4 +1,4 @@
 // A picture in a lent register file: written there, and read back.
 pub mod read;
-mod values;
+pub mod values;
 pub mod write;

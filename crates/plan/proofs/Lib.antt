@@ -1,4 +1,5 @@
 pub mod Lists
+pub mod Longest
 pub mod Meaning
 pub mod Replies
 pub mod Spelling

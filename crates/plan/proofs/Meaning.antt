@@ -4,7 +4,7 @@ use mathlib.Core.Path.{_≡_, refl, sym, ap, _∙_}
 use mathlib.Core.Bool.{false, false≢true}
 use mathlib.Core.List.{List, _++_}
 use mathlib.Core.Logic.{_↔_}
-use Prim.Native.Nat.{ℕ, _<_}
+use Prim.Native.Nat.{ℕ, _<_, _≤_}
 use native.Mathlib.Omega.{arith}
 use lib.ListN.{length, getD, drop}
 use Rattle.bits.proofs.Tests.{is-true, from-true}
@@ -17,9 +17,11 @@ use Rattle.chip.specs.Map.{masks}
 use Rattle.reply.specs.Reply.{LowestMeans, rising, done, wrongLength, notWritable, tooLong}
 use Rattle.reply.proofs.Lowest.{lowest-means}
 use Rattle.plan.specs.Meaning.{AreFiles, Candidate, PlanMeans}
-use Rattle.plan.specs.Plan.{listFor, planTests, planReply, refusal, planAnswer, planBuffer}
+use Rattle.plan.specs.Plan.{listFor, longestList, planTests, planReply, refusal, planAnswer}
+use Rattle.plan.specs.Plan.{planBuffer}
 use Rattle.plan.specs.declared.plan.Planned.{Planned}
 use Rattle.plan.proofs.Lists.{encoded-long, are-files}
+use Rattle.plan.proofs.Longest.{list-small, bursts-fewer}
 use Rattle.plan.proofs.Replies.{Cases, wrong, fixed, long, fine, cases}
 use Rattle.plan.proofs.Replies.{answer-reply, answer-refused, answer-done, buffer-refused, buffer-done}
 
@@ -79,6 +81,31 @@ module _ (from to : List ℕ) (lf : (i : ℕ) → getD from i 0 < 256) (lt : (i 
               absurd (omega arith),
         )
 
+    -- a list, where there is one, is no longer than the longest
+    our-small : AreFiles from to → stuck masks caption from to ≡ false
+        → busBytes (listFor from to) ≤ longestList
+    our-small f s = list-small from to (are-files from to f lf lt) (unstuck f s) (omega (arith, f .0))
+
+    small-by : Cases from to room → planAnswer from to room .bytes ≤ longestList
+    unfolding refusal
+    small-by (wrong n e) = rw (answer-refused from to room (λ d. absurd (omega arith))) (omega arith)
+    small-by (fixed f s e) = rw (answer-refused from to room (λ d. absurd (omega arith))) (omega arith)
+    small-by (long f s l e) = rw (answer-refused from to room (λ d. absurd (omega arith))) (omega arith)
+    small-by (fine f s l e) = rw (answer-done from to room e) (our-small f s)
+
+    few-by : Cases from to room → planAnswer from to room .bursts ≤ planAnswer from to room .bytes
+    unfolding refusal
+    few-by (wrong n e) = rw (answer-refused from to room (λ d. absurd (omega arith))) (omega arith)
+    few-by (fixed f s e) = rw (answer-refused from to room (λ d. absurd (omega arith))) (omega arith)
+    few-by (long f s l e) = rw (answer-refused from to room (λ d. absurd (omega arith))) (omega arith)
+    few-by (fine f s l e) = rw (answer-done from to room e) (bursts-fewer (listFor from to))
+
+    enough-by : Cases from to room → longestList ≤ room → planReply from to room ≡ tooLong → ⊥
+    enough-by (wrong n e) h z = omega arith
+    enough-by (fixed f s e) h z = omega arith
+    enough-by (long f s l e) h z = let m = our-small f s in omega arith
+    enough-by (fine f s l e) h z = omega arith
+
   module _ (before : List ℕ) where
     rises : LowestMeans (planTests from to (length before))
     unfolding planTests rising
@@ -110,6 +137,9 @@ module _ (from to : List ℕ) (lf : (i : ℕ) → getD from i 0 < 256) (lt : (i 
         holds = λ e. rw (encoded-long (listFor from to)) (buffer-done from to before (sym r ∙ e));
         bytes = λ e. ap (λ (x : Planned). x .bytes) (answer-done from to room (sym r ∙ e));
         bursts = λ e. ap (λ (x : Planned). x .bursts) (answer-done from to room (sym r ∙ e));
+        small = small-by room k;
+        few = few-by room k;
+        enough = rw r (enough-by room k);
         refused = λ n. nothing before (λ e. n (r ∙ e));
       }
 

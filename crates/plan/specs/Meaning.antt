@@ -3,7 +3,7 @@
 use mathlib.Core.Path.{_≡_}
 use mathlib.Core.List.{List, _++_}
 use mathlib.Core.Logic.{_↔_}
-use Prim.Native.Nat.{ℕ, _<_}
+use Prim.Native.Nat.{ℕ, _<_, _≤_}
 use lib.ListN.{length, drop}
 use Rattle.bursts.specs.Burst.{Burst, busBytes, encoded, Competes}
 use Rattle.bursts.specs.Shortest.{GetsThere, Shortest}
@@ -11,7 +11,7 @@ use Rattle.bursts.specs.Stuck.{Stuck}
 use Rattle.chip.specs.File.{caption, fileLength, registersEnd}
 use Rattle.chip.specs.Map.{masks}
 use Rattle.reply.specs.Reply.{LowestMeans, done, wrongLength, notWritable, tooLong}
-use Rattle.plan.specs.Plan.{listFor, planTests, planAnswer, planBuffer}
+use Rattle.plan.specs.Plan.{listFor, longestList, planTests, planAnswer, planBuffer}
 use Rattle.plan.specs.declared.plan.Planned.{Planned}
 
 -- two register files
@@ -47,5 +47,9 @@ pub record PlanMeans (from to before : List ℕ) (answer : Planned) (after : Lis
       → after ≡ encoded (listFor from to) ++ drop (length (encoded (listFor from to))) before
   pub bytes : answer .reply ≡ done → answer .bytes ≡ busBytes (listFor from to)
   pub bursts : answer .reply ≡ done → answer .bursts ≡ length (listFor from to)
+  -- no more than the longest list has: with room for that, 11 is never given
+  pub small : answer .bytes ≤ longestList
+  pub few : answer .bursts ≤ answer .bytes
+  pub enough : longestList ≤ length before → answer .reply ≡ tooLong → ⊥
   -- any other reply: both numbers are 0, and the buffer stays
   pub refused : (answer .reply ≡ done → ⊥) → (answer .bytes ≡ 0) × (answer .bursts ≡ 0) × (after ≡ before)

@@ -18,6 +18,10 @@ use Rattle.plan.specs.declared.plan.Planned.{Planned}
 abbrev pub listFor : List ℕ → List ℕ → List Burst
 listFor from to = burstsFor caption from to
 
+-- no list has more bytes than two bursts that write every place up to the caption bytes, and every one behind
+abbrev pub longestList : ℕ
+longestList = 254
+
 -- what may be refused, and its number, for a buffer with room for so many bytes
 unfoldable pub planTests : List ℕ → List ℕ → ℕ → List (ℕ × Bool)
 planTests from to room =

@@ -1,10 +1,12 @@
-// request_of: the request in the 18 bytes of a record of a session.
+// The request in the 18 bytes of a record of a session: request_of reads it, and put_request puts it there.
 ghost use mathlib.Core.Path.{_≡_};
 ghost use Prim.Native.Nat.{_+_, _*_};
 ghost use lib.ListN.{length};
 ghost use Rattle.requests.specs.Requests.{signed, requestOf};
 use scaler::request::PixelClocks;
 use scaler::request::Request;
+
+pub mod put;
 
 // Two bytes as a 16-bit number, the low one first.
 fn word(low: u8, high: u8) -> u16

@@ -24,7 +24,6 @@ pub record Progress (from to heads : List ℕ) (bytes bursts start : ℕ) : Type
   pub listed : take (2 * bursts) heads ++ headings (runsAt from to start) ≡ headings (runsAt from to 0)
   pub summed : bytes + runBytes (runsAt from to start) ≡ runBytes (runsAt from to 0)
   pub counted : bursts + length (runsAt from to start) ≡ length (runsAt from to 0)
-  pub stuck : stuckAt from to 0 ≡ stuckAt from to start
   pub inside : start ≤ 256
   pub differs : start < 256 → changed from to start ≡ true
   -- a run has a place and leaves one behind it; its bytes are at most three for each place
@@ -40,41 +39,42 @@ take-two l i a b h =
     ∙ rw (take-suc-set l i a (omega arith)) (append-assoc (take i l) (a ∷ []) (b ∷ [])))
 
 module _ (from to : List ℕ) where
-  pub found-first : ((i : ℕ) → getD to i 0 < 256) → (heads : List ℕ) (start : ℕ) → length heads ≡ 256
+  pub found-first : (heads : List ℕ) (start : ℕ) → length heads ≡ 256
       → NextChange from to 0 start → Progress from to heads 0 0 start
-  found-first lt heads start l b =
+  found-first heads start l b =
       let r = runs-pass from to 0 start (b .passed) in
       record {
         long = l;
         listed = rw (sym r);
         summed = let z = ap runBytes r in omega arith;
         counted = let z = ap length r in omega arith;
-        stuck = stuck-pass from to lt 0 start (b .passed);
         inside = b .passed .inside;
         differs = b .differs;
         few = omega arith;
         small = omega arith;
       }
 
+  -- files with no changed place are not stuck
+  pub unchanged-free : ((i : ℕ) → getD to i 0 < 256) → (start : ℕ) → NextChange from to 0 start → 256 ≤ start
+      → stuckAt from to 0 ≡ false
+  unchanged-free lt start b l = stuck-pass from to lt 0 start (b .passed) ∙ none-stuck from to start l
+
   module _ (heads : List ℕ) (bytes bursts start : ℕ) (g : Progress from to heads bytes bursts start) where
-    pub found-stuck : (r : Extent) → RunFound from to start r → r .fixed ≡ true → true ≡ stuckAt from to 0
-    found-stuck r f e = sym (g .stuck ∙ f .stuck ∙ rw e)
-
     -- a run leaves a place before the next
-    pub run-ends : (r : Extent) → RunFound from to start r → r .fixed ≡ false → r .end < r .next
-    run-ends r f e = let low = f .low e in ⊎-elim (λ l. omega arith) (f .gap) (le-or-lt 256 (r .next))
+    pub run-ends : (r : Extent) → RunFound from to start r → r .end < r .next
+    run-ends r f = let low = f .low in ⊎-elim (λ l. omega arith) (f .gap) (le-or-lt 256 (r .next))
 
-    pub found-more : (r : Extent) → RunFound from to start r → r .fixed ≡ false
+    pub found-more : (r : Extent) → RunFound from to start r
         → Progress from to (set (set heads (2 * bursts) start) (2 * bursts + 1) (r .end - start))
         (bytes + (heading + (r .end - start))) (bursts + 1) (r .next)
     unfolding headings runBytes
-    found-more r f e =
+    found-more r f =
         let n = r .end - start in
-        let low = f .low e in
+        let low = f .low in
         let more = f .more in
         let few = g .few in
         let long = g .long in
-        let ends = run-ends r f e in
+        let ends = run-ends r f in
         let two = take-two heads (2 * bursts) start n (omega arith) in
         let i : 2 * (bursts + 1) ≡ suc (suc (2 * bursts)) = omega arith in
         record {
@@ -83,20 +83,19 @@ module _ (from to : List ℕ) where
               (headings (runsAt from to (r .next))) ∙ (rw (f .runs) at (g .listed)));
           summed = let s = g .summed in let z = ap runBytes (f .runs) in omega arith;
           counted = let s = g .counted in let z = ap length (f .runs) in omega arith;
-          stuck = g .stuck ∙ f .stuck ∙ rw e;
           inside = f .inside;
           differs = f .differs;
           few = omega arith;
           small = let s = g .small in omega arith;
         }
 
-    pub found-all : 256 ≤ start
+    pub found-all : stuckAt from to 0 ≡ false → 256 ≤ start
         → RunsFound from to (record { fixed = false; bytes = bytes; bursts = bursts }) heads
     unfolding headings runBytes
-    found-all l =
+    found-all free l =
         let none = no-runs from to start l in
         record {
-          stuck = sym (g .stuck ∙ none-stuck from to start l);
+          stuck = sym free;
           none = λ e. absurd (false≢true e);
           bytes = λ e. let s = g .summed in let z = ap runBytes none in omega arith;
           bursts = λ e. let s = g .counted in let z = ap length none in omega arith;

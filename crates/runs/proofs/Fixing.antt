@@ -1,7 +1,7 @@
 -- Places that can't be written: the test of the code at a changed place, and unchanged places.
 -- Assumes nothing.
 use mathlib.Core.Path.{_≡_, refl, sym, ap, _∙_}
-use mathlib.Core.Bool.{Bool, true, false, cond, not, _||_, and-true, and-false}
+use mathlib.Core.Bool.{Bool, true, false, cond, not, _||_, or-false, and-true, and-false}
 use mathlib.Core.List.{List}
 use mathlib.Core.Logic.{⊎-elim}
 use Prim.Native.Nat.{ℕ, zero, suc, _<_}
@@ -68,6 +68,20 @@ module _ (masks : List ℕ) (barred : ℕ → Bool) (from to : List ℕ) (p : �
   unfolding fixedAt changed
   fixed-change l e =
       rw (agree-merge (getD masks p 0) (getD from p 0) (getD to p 0) l, e, and-true (barred p))
+
+  -- a place that is not barred, and an unchanged one
+  pub fixed-free : getD to p 0 < 256 → barred p ≡ false
+      → fixedAt masks barred from to p
+      ≡ not (eqb (merge (getD masks p 0) (getD from p 0) (getD to p 0)) (getD to p 0))
+  unfolding fixedAt
+  fixed-free l n = rw (agree-merge (getD masks p 0) (getD from p 0) (getD to p 0) l, n) (or-false _)
+
+  pub fixed-unchanged : getD to p 0 < 256 → changed from to p ≡ false
+      → fixedAt masks barred from to p
+      ≡ not (eqb (merge (getD masks p 0) (getD from p 0) (getD to p 0)) (getD to p 0))
+  unfolding fixedAt changed
+  fixed-unchanged l e =
+      rw (agree-merge (getD masks p 0) (getD from p 0) (getD to p 0) l, e, and-false (barred p)) (or-false _)
 
   -- an unchanged place
   pub fixed-same : getD to p 0 < 256 → changed from to p ≡ false → fixedAt masks barred from to p ≡ false

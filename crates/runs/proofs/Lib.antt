@@ -5,3 +5,4 @@ pub mod Gaps
 pub mod Joining
 pub mod Opening
 pub mod Places
+pub mod Stuck

@@ -23,7 +23,8 @@ module _ (from to : List ℕ) where
   changed-at p n = rw (ne-eqb _ _ n)
 
   -- each of four places from p on, and of eight
-  four-at : (p : ℕ) → sameFour from to p ≡ true → (d : ℕ) → d < 4 → getD from (p + d) 0 ≡ getD to (p + d) 0
+  pub four-at : (p : ℕ) → sameFour from to p ≡ true → (d : ℕ) → d < 4
+      → getD from (p + d) 0 ≡ getD to (p + d) 0
   four-at p t zero l = let k = simp refusals at t in rw add-zero (k .0)
   four-at p t (suc zero) l = let k = simp refusals at t in k .1 .0
   four-at p t (suc (suc zero)) l = let k = simp refusals at t in k .1 .1 .0

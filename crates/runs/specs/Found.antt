@@ -2,7 +2,7 @@
 -- with the caption bytes barred, and whether a changed place can't be written.
 -- Assumes nothing.
 use mathlib.Core.Path.{_≡_}
-use mathlib.Core.Bool.{Bool, true, false, _||_}
+use mathlib.Core.Bool.{Bool, true, false}
 use mathlib.Core.List.{List, [], _∷_}
 use Prim.Native.Nat.{ℕ, _+_, _-_, _*_, _<_, _≤_}
 use lib.ListN.{length, take}
@@ -21,17 +21,24 @@ runsAt from to p = runsFrom (changed from to) caption p (fileLength - p)
 unfoldable pub stuckAt : List ℕ → List ℕ → ℕ → Bool
 stuckAt from to p = someFrom (fixedAt masks caption from to) p (fileLength - p)
 
+-- what is asked of two files and a place: the place is changed, and every changed one can be written
+pub record ChangeAt (from to : List ℕ) (p : ℕ) : Type 0 where
+  pub fromLong : length from ≡ fileLength
+  pub toLong : length to ≡ fileLength
+  pub low : p < fileLength
+  pub differs : changed from to p ≡ true
+  pub free : stuckAt from to 0 ≡ false
+
 -- the first run from its start on, which is changed
 pub record RunFound (from to : List ℕ) (start : ℕ) (r : Extent) : Type 0 where
   pub runs : runsAt from to start ≡ run start (r .end) ∷ runsAt from to (r .next)
-  pub stuck : stuckAt from to start ≡ (r .fixed || stuckAt from to (r .next))
   pub more : start < r .end
   -- behind it an unchanged place, unless the file ends
   pub gap : r .next < fileLength → r .end < r .next
   pub inside : r .next ≤ fileLength
   pub differs : r .next < fileLength → changed from to (r .next) ≡ true
-  -- a run that can be written ends with the registers
-  pub low : r .fixed ≡ false → r .end ≤ registersEnd
+  -- it can be written, so that it ends with the registers
+  pub low : r .end ≤ registersEnd
 
 -- headings, one behind the other, and their bytes on the bus
 unfoldable pub headings : List Run → List ℕ

@@ -5,10 +5,9 @@ use mathlib.Core.Bool.{Bool, true, false, _&&_}
 use mathlib.Core.List.{List}
 use Prim.Native.Nat.{ℕ, _+_, _<_, _≤_}
 use lib.Dec.{eqb}
-use lib.ListN.{length, getD}
+use lib.ListN.{getD}
 use Rattle.bursts.specs.Runs.{changed}
 use Rattle.chip.specs.File.{fileLength}
-use Rattle.chip.specs.Map.{masks}
 
 -- two files agree at a place, at four from a place on, and at eight
 abbrev pub sameAt : List ℕ → List ℕ → ℕ → Bool
@@ -31,11 +30,3 @@ pub record Unchanged (from to : List ℕ) (p r : ℕ) : Type 0 where
 pub record NextChange (from to : List ℕ) (p r : ℕ) : Type 0 where
   pub passed : Unchanged from to p r
   pub differs : r < fileLength → changed from to r ≡ true
-
--- what a leaf asks that works at a changed place of two files
-pub record ChangeAt (table from to : List ℕ) (p : ℕ) : Type 0 where
-  pub map : table ≡ masks
-  pub fromLong : length from ≡ fileLength
-  pub toLong : length to ≡ fileLength
-  pub low : p < fileLength
-  pub differs : changed from to p ≡ true

@@ -1,4 +1,4 @@
-// next_change: the first place from a place on at which two files differ.
+// next_change: the first place from a place on at which two files differ; same_four compares four places.
 // These ask for two files and a place in them.
 ghost use mathlib.Core.Path.{_≡_};
 ghost use Prim.Native.Nat.{_+_, _≤_};
@@ -10,7 +10,7 @@ use chip::file::FILE_LENGTH;
 // Eight places are compared at once: joined by `&`, the tests are one comparison of words.
 const WIDE: usize = 8;
 
-fn same_four(from: &[u8], to: &[u8], p: usize) -> bool
+pub fn same_four(from: &[u8], to: &[u8], p: usize) -> bool
     requires { ⌜ (p + 4 ≤ length (now from)) × (p + 4 ≤ length (now to)) ⌝ }
     ensures { λ r. ⌜ r ≡ sameFour (now (from .entry)) (now (to .entry)) p ⌝ }
 {

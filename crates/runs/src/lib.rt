@@ -1,3 +1,4 @@
 // The runs of changed places between two register files: what a list of writes has to write.
 mod changes;
 pub mod find;
+mod fixed;

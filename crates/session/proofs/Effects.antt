@@ -14,11 +14,12 @@ use Rattle.bits.specs.Run.{mergeRun}
 use Rattle.chip.specs.Map.{masks, masksFrom}
 use Rattle.reply.specs.Reply.{lowest}
 use Rattle.reply.proofs.Lowest.{allBelow, lowest-below}
+use Rattle.transactions.specs.Writes.{writeAddress, cursorAt, coloursAt, fromStart, cellsPass, passes}
+use Rattle.transactions.specs.Writes.{writeTests as busTests, writeReply as busReply}
+use Rattle.writers.specs.Cells.{cellsRun}
 use Rattle.bus.specs.States.{stored, busWrite}
 use Rattle.bus.specs.Sending.{transaction}
 use Rattle.bus.specs.declared.state.State.{State}
-use Rattle.bus.specs.Writes.{writeAddress, cursorAt, coloursAt, fromStart, cellsPass, cellsRun, passes}
-use Rattle.bus.specs.Writes.{writeTests as busTests, writeReply as busReply}
 use Rattle.bus.proofs.Sending.{sends-mean}
 use Rattle.scaler.specs.Limits.{requestTests}
 use Rattle.scaler.specs.declared.request.Request.{Request}

@@ -12,11 +12,12 @@ use Rattle.bits.proofs.Tests.{le-or-lt}
 use lib.Dec.{eqb, ltb}
 use lib.ListN.{length, getD, take}
 use Rattle.reply.specs.Reply.{done, wrongLength, lowest}
+use Rattle.transactions.specs.Writes.{writeAddress, cursorAt, coloursAt}
+use Rattle.transactions.specs.Writes.{registersPass, passes, writeTests, writeReply}
 use Rattle.bus.specs.declared.state.State.{State}
 use Rattle.bus.specs.declared.state.Answer.{Answer}
 use Rattle.bus.specs.Meaning.{Sized}
 use Rattle.bus.specs.States.{withFile, zeroState, freshAnswer, stored, busWrite}
-use Rattle.bus.specs.Writes.{writeAddress, cursorAt, coloursAt, registersPass, passes, writeTests, writeReply}
 use Rattle.fields.specs.Laws.{Bytes}
 use Rattle.chip.specs.File.{registersEnd}
 use Rattle.chip.specs.Map.{masks, masksFrom, namedAt, printed}

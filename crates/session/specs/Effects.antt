@@ -7,9 +7,9 @@ use lib.Dec.{eqb, ltb}
 use lib.ListN.{getD}
 use Rattle.chip.specs.File.{registersEnd}
 use Rattle.reply.specs.Reply.{done}
+use Rattle.transactions.specs.Writes.{writeAddress, cursorAt, coloursAt}
 use Rattle.bus.specs.declared.state.State.{State}
 use Rattle.bus.specs.declared.state.Answer.{Answer}
-use Rattle.bus.specs.Writes.{writeAddress, cursorAt, coloursAt}
 use Rattle.bus.specs.States.{withFile, busWrite}
 use Rattle.picture.specs.Writing.{writeReply, fileAfter}
 use Rattle.lines.specs.Lines.{addedByte}

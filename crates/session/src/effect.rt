@@ -3,10 +3,6 @@ ghost use mathlib.Core.Path.{_≡_};
 ghost use Rattle.chip.specs.Map.{masks as mapMasks};
 ghost use Rattle.session.specs.Parts.{Lent, Body, Does};
 use bits::merge::merge_byte;
-use bus::decode::COLOUR_CELL;
-use bus::decode::CURSOR_CELL;
-use bus::decode::REGISTERS_END;
-use bus::store::write_cells;
 use picture::write::write_picture;
 use records::record::COLOUR;
 use records::record::CURSOR;
@@ -14,6 +10,10 @@ use records::record::PICTURE;
 use records::record::REGISTER;
 use reply::DONE;
 use requests::request_of;
+use transactions::decode::COLOUR_CELL;
+use transactions::decode::CURSOR_CELL;
+use transactions::decode::REGISTERS_END;
+use writers::write_cells;
 
 // The reply; the parts are those that the record leaves.
 pub fn do_record(

@@ -1,6 +1,6 @@
 // Bus traffic with a fresh SAA7103: each transaction with its reply, and what the state then holds.
-use bus::cursor::cursor_row;
 use bus::state::State;
+use cursor::cursor_row;
 use report::hex_bytes;
 use report::number_8;
 use report::show_bytes;

@@ -1,25 +1,22 @@
--- `lines::character` meets its contract: its two branches are those of the definition.
+-- `lines::character` meets its contract: the string holds the characters of the digits in turn.
 -- Assumes nothing.
-use native.Mathlib.Omega.{arith}
+use mathlib.Core.Path.{ap, _∙_}
+use native.Mathlib.Nat.{zero-add}
 use borrow.Author.Needs.{needs}
-use borrow.Author.Tests.{lt-ltb, le-ltb}
 use Rattle.lines.specs.Lines.{glyph}
+use Rattle.lines.proofs.Digits.{glyph-at}
 use Rattle.lines.proofs.character.Statement.{statement}
 use Rattle.lines.proofs.character.Tie as tie
 
-add-result : tie.Need-add-result
-add-result c = search needs
+element-copy-out-result : tie.Need-element-copy-out-result
+element-copy-out-result c = search needs
 
 returns : tie.Need-returns
 unfolding glyph
-returns c = rw (lt-ltb (c .before .args .digit) 10 (c .if1 .taken))
-
-add-result-2 : tie.Need-add-result-2
-add-result-2 c = search needs
-
-returns-2 : tie.Need-returns-2
-unfolding glyph
-returns-2 c = rw (le-ltb (c .before .args .digit) 10 (c .if1 .left)) (omega arith)
+returns c =
+    let s = c .before .before in
+    let d = s .args .digit in
+    glyph-at 0 16 d (s .pre) ∙ ap glyph (zero-add d)
 
 pub character-spec : {M : Type 1} → statement M
-character-spec = tie.close (tie.spec add-result returns add-result-2 returns-2)
+character-spec = tie.close (tie.spec element-copy-out-result returns)

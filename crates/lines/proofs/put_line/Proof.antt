@@ -6,6 +6,7 @@ use native.Mathlib.Omega.{arith}
 use borrow.Author.Needs.{needs}
 use lib.ListN.{length, length-set}
 use Rattle.lines.specs.Lines.{line, hex}
+use Rattle.lines.proofs.Digits.{decimal}
 use Rattle.lines.proofs.put_line.Statement.{statement}
 use Rattle.lines.proofs.put_line.Tie as tie
 
@@ -35,20 +36,20 @@ add-out-2 c = search needs
 slice-write-out-3 : tie.Need-slice-write-out-3
 slice-write-out-3 c = let f = fits (c .before .before .before) in simp length-set (omega arith)
 
-character-requires-3 : tie.Need-character-requires-3
-character-requires-3 c κs = search needs
-
 add-out-3 : tie.Need-add-out-3
 add-out-3 c = search needs
-
-slice-write-out-4 : tie.Need-slice-write-out-4
-slice-write-out-4 c = let f = fits (c .before .before .before .before) in simp length-set (omega arith)
 
 add-out-4 : tie.Need-add-out-4
 add-out-4 c = search needs
 
+slice-write-out-4 : tie.Need-slice-write-out-4
+slice-write-out-4 c = let f = fits (c .before .before .before) in simp length-set (omega arith)
+
+add-out-5 : tie.Need-add-out-5
+add-out-5 c = search needs
+
 slice-write-out-5 : tie.Need-slice-write-out-5
-slice-write-out-5 c = let f = fits (c .before .before .before .before) in simp length-set (omega arith)
+slice-write-out-5 c = let f = fits (c .before .before .before) in simp length-set (omega arith)
 
 add-result : tie.Need-add-result
 add-result c = search needs
@@ -59,7 +60,8 @@ same-length c = search needs
 returns : tie.Need-returns
 unfolding line hex
 returns c =
-    let at = c .before .before .before .before .args .at in
+    let s = c .before .before .before in
+    let at = s .args .at in
     let one : at + 1 ≡ suc at = omega arith in
     let two : at + 2 ≡ suc (suc at) = omega arith in
     let three : at + 3 ≡ suc (suc (suc at)) = omega arith in
@@ -69,9 +71,9 @@ returns c =
         two,
         three,
         four,
-        c .before .before .character .ensures,
-        c .before .character2 .ensures,
-        c .character3 .ensures,
+        c .before .character .ensures,
+        c .character2 .ensures,
+        decimal (s .args .reply) (s .pre .1),
       ),
       refl,
     )
@@ -87,10 +89,10 @@ put-line-spec =
     slice-write-out-2
     add-out-2
     slice-write-out-3
-    character-requires-3
     add-out-3
-    slice-write-out-4
     add-out-4
+    slice-write-out-4
+    add-out-5
     slice-write-out-5
     add-result
     same-length

@@ -23,6 +23,15 @@ Inv-loop file₀ at bytes i₀ file i =
 abbrev μ-loop : tie.MeasureT-loop
 μ-loop file₀ at bytes i₀ file i = length bytes - i
 
+store-few-requires : tie.Need-store-few-requires Inv-loop μ-loop
+store-few-requires c κs = (search needs, search needs)
+
+same-length : tie.Need-same-length Inv-loop μ-loop
+same-length c = search needs
+
+returns : tie.Need-returns Inv-loop μ-loop
+returns c = c .before .before .store-few .ensures
+
 loop-holds : tie.Need-loop-holds Inv-loop μ-loop
 loop-holds c = (search needs, search needs, rw add-zero)
 
@@ -44,20 +53,20 @@ loop-less c = search needs
 loop-again : tie.Need-loop-again Inv-loop μ-loop
 loop-again c =
     let l = c .before .before .loop in
-    let a = c .before .before .before .args in (
+    let a = c .before .before .before .before .before .before .args in (
       search needs,
       search needs,
       turn-next sets stored (λ f a. refl) (λ f a b bs. refl) (l .file) (a .at) (a .bytes .now) (l .i)
           (search needs) ∙ l .inv .2,
     )
 
-same-length : tie.Need-same-length Inv-loop μ-loop
-same-length c = search needs
+same-length-2 : tie.Need-same-length-2 Inv-loop μ-loop
+same-length-2 c = search needs
 
-returns : tie.Need-returns Inv-loop μ-loop
-returns c =
+returns-2 : tie.Need-returns-2 Inv-loop μ-loop
+returns-2 c =
     let l = c .before .loop in
-    let a = c .before .before .args in
+    let a = c .before .before .before .before .before .args in
     turn-last sets stored (λ f a. refl) (λ f a b bs. refl) (l .file) (a .at) (a .bytes .now) (l .i)
     (search needs) ∙ l .inv .2
 
@@ -67,6 +76,9 @@ store-run-spec =
     (tie.spec
     Inv-loop
     μ-loop
+    store-few-requires
+    same-length
+    returns
     loop-holds
     shared-slice-read-file
     add-file
@@ -74,5 +86,5 @@ store-run-spec =
     add-i
     loop-less
     loop-again
-    same-length
-    returns)
+    same-length-2
+    returns-2)

@@ -11,10 +11,10 @@ use Rattle.runs.proofs.find.run_from.Statement.{statement}
 use Rattle.runs.proofs.find.run_from.Tie as tie
 
 abbrev Inv-loop : tie.InvT-loop
-Inv-loop table from to start fixed₀ end₀ next₀ fixed end next = Open from to start fixed end next
+Inv-loop from to start end₀ next₀ end next = Open from to start end next
 
 abbrev μ-loop : tie.MeasureT-loop
-μ-loop table from to start fixed₀ end₀ next₀ fixed end next = 256 - next
+μ-loop from to start end₀ next₀ end next = 256 - next
 
 -- the elements of both files are bytes
 from-bytes : (c : tie.After-shared-slice-known2 Inv-loop μ-loop) (i : ℕ)
@@ -25,9 +25,6 @@ to-bytes : (c : tie.After-shared-slice-known2 Inv-loop μ-loop) (i : ℕ)
     → getD (c .before .before .args .to .now) i 0 < 256
 to-bytes c i = omega (arith, c .shared-slice-known2 .given i)
 
-is-fixed-requires : tie.Need-is-fixed-requires Inv-loop μ-loop
-is-fixed-requires c κs = search needs
-
 add-end : tie.Need-add-end Inv-loop μ-loop
 add-end c = search needs
 
@@ -36,31 +33,19 @@ next-change-requires c κs = search needs
 
 loop-holds : tie.Need-loop-holds Inv-loop μ-loop
 loop-holds c =
-    let s = c .before .before .before .before in
-    rw (c .before .is-fixed .ensures)
-    (open-first _ _ (from-bytes (c .before .before)) (to-bytes (c .before .before)) _ _
-    (s .pre .low) (s .pre .differs) (c .next-change .ensures))
+    let s = c .before .before .before in
+    open-first _ _ (from-bytes (c .before)) (to-bytes (c .before)) (s .pre .free) _ _
+    (s .pre .low) (s .pre .differs) (c .next-change .ensures)
 
 goes-on-requires : tie.Need-goes-on-requires Inv-loop μ-loop
 goes-on-requires c κs = let u = c .before .loop .inv .behind .passed in (u .above, u .inside)
 
 returns : tie.Need-returns Inv-loop μ-loop
 returns c =
-    closed _ _ (from-bytes (c .before .before .before .before .before .before))
-    (to-bytes (c .before .before .before .before .before .before)) _ _ _ _
+    let s = c .before .before .before .before .before in
+    closed _ _ (from-bytes s) (to-bytes s) (s .before .before .pre .free) _ _ _
     (c .before .before .before .loop .inv)
     (λ l. sym (c .before .goes-on .ensures) ∙ not-true _ (c .if1 .taken))
-
-is-fixed-requires-2 : tie.Need-is-fixed-requires-2 Inv-loop μ-loop
-is-fixed-requires-2 c κs =
-    let a = c .before .before .before .before .before .before .before .before .pre in
-    record {
-      map = a .map;
-      fromLong = a .fromLong;
-      toLong = a .toLong;
-      low = c .before .before .loop-test .taken;
-      differs = c .before .before .before .loop .inv .behind .differs (c .before .before .loop-test .taken);
-    }
 
 add-end-2 : tie.Need-add-end-2 Inv-loop μ-loop
 add-end-2 c = search needs
@@ -73,18 +58,16 @@ loop-less c = omega (arith, c .next-change2 .ensures .passed .above)
 
 loop-again : tie.Need-loop-again Inv-loop μ-loop
 loop-again c =
-    let l = c .before .before .before .before .before .loop in
-    rw (c .before .is-fixed2 .ensures)
-    (open-more _ _ (from-bytes (c .before .before .before .before .before .before .before .before))
-    (to-bytes (c .before .before .before .before .before .before .before .before)) _ _ _ _ _
-    (l .inv) (c .before .before .before .before .loop-test .taken)
-    (sym (c .before .before .before .goes-on .ensures) ∙ not-false _ (c .before .before .if1 .left))
-    (c .next-change2 .ensures))
+    let s = c .before .before .before .before .before .before in
+    open-more _ _ (from-bytes s) (to-bytes s) (s .before .before .pre .free) _ _ _ _
+    (c .before .before .before .before .loop .inv) (c .before .before .before .loop-test .taken)
+    (sym (c .before .before .goes-on .ensures) ∙ not-false _ (c .before .if1 .left))
+    (c .next-change2 .ensures)
 
 returns-2 : tie.Need-returns-2 Inv-loop μ-loop
 returns-2 c =
-    closed _ _ (from-bytes (c .before .before .before .before)) (to-bytes (c .before .before .before .before))
-    _ _ _ _
+    let s = c .before .before .before in
+    closed _ _ (from-bytes s) (to-bytes s) (s .before .before .pre .free) _ _ _
     (c .before .loop .inv) (λ l. absurd (omega arith))
 
 pub run-from-spec : {M : Type 1} → statement M
@@ -93,13 +76,11 @@ run-from-spec =
     (tie.spec
     Inv-loop
     μ-loop
-    is-fixed-requires
     add-end
     next-change-requires
     loop-holds
     goes-on-requires
     returns
-    is-fixed-requires-2
     add-end-2
     next-change-requires-2
     loop-less

@@ -4,8 +4,9 @@ use mathlib.Core.Path.{_≡_, sym, _∙_}
 use native.Mathlib.Omega.{arith}
 use borrow.Author.Needs.{needs}
 use borrow.Author.Tests.{ne-eqb}
-use Rattle.bus.specs.Reads.{readReply, busRead}
-use Rattle.bus.proofs.Accepted.{read-long}
+use Rattle.transactions.specs.Reads.{readReply}
+use Rattle.transactions.proofs.Accepted.{read-long}
+use Rattle.bus.specs.States.{busRead}
 use Rattle.bus.proofs.state.State.read.Statement.{statement}
 use Rattle.bus.proofs.state.State.read.Tie as tie
 

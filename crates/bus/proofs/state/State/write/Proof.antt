@@ -6,10 +6,10 @@ use native.Mathlib.Omega.{arith}
 use borrow.Author.Needs.{needs}
 use borrow.Author.Tests.{eq-eqb, ne-eqb}
 use lib.ListN.{getD, drop}
+use Rattle.transactions.specs.Writes.{writeReply}
+use Rattle.transactions.proofs.Accepted.{Accepted, accepted, cursor-fits, colours-fit, registers-fit}
+use Rattle.transactions.proofs.Starts.{tail-part}
 use Rattle.bus.specs.States.{stored, busWrite}
-use Rattle.bus.specs.Writes.{writeReply}
-use Rattle.bus.proofs.Accepted.{Accepted, accepted, cursor-fits, colours-fit, registers-fit}
-use Rattle.bus.proofs.Starts.{tail-part}
 use Rattle.bus.proofs.state.State.write.Statement.{statement}
 use Rattle.bus.proofs.state.State.write.Tie as tie
 
