@@ -109,7 +109,7 @@ uint32_t thymeflask_write(uint8_t *state, size_t state_length,
 
 /*
  * A bus read. The transaction is 88h, a place, 89h. The result has the reply in bits 0 to 7 and the
- * byte that was read in bits 8 to 15, which are 0 beside a refusal. The state stays as it was today;
+ * byte that was read in bits 8 to 15, which are 0 beside a refusal. Today the state stays as it was;
  * it is lent for writing since on the chip a read can clear bits.
  * Replies: 0; 1, state_length is not 1,283, or the transaction has not 3 bytes; 2, it does not begin
  * with 88h or end with 89h; 12, the place is none of 00h, 1Ch and 80h.

@@ -2,7 +2,7 @@
 
 use thymeflask_tests::cases::Case;
 use thymeflask_tests::compare;
-use thymeflask_tests::inputs::requests::FIGURE_1;
+use thymeflask_tests::inputs::requests::{FIGURE_1, FIGURE_4};
 use thymeflask_tests::library::{FIELDS_BYTES, FILE_BYTES, REQUEST_BYTES, STATE_BYTES};
 use thymeflask_tests::model::request::Request;
 use thymeflask_tests::model::scaler::NAMES;
@@ -16,19 +16,6 @@ const FIGURE_3: Request = Request {
     out_lin: 212,
     y_skip: 2048,
     ..FIGURE_1
-};
-
-const FIGURE_4: Request = Request {
-    standard: 1,
-    in_pix: 800,
-    in_lin: 600,
-    in_ppl: 1024,
-    out_pix: 640,
-    out_lin: 255,
-    y_skip: 4095,
-    x_ofs: 200,
-    y_ofso: 89,
-    offset: 0,
 };
 
 const FIGURE_6: Request = Request {

@@ -4,7 +4,7 @@
 
 use thymeflask_tests::cases::Case;
 use thymeflask_tests::compare;
-use thymeflask_tests::inputs::requests::FIGURE_1;
+use thymeflask_tests::inputs::requests::{FIGURE_1, FIGURE_4};
 use thymeflask_tests::library::{FIELDS_BYTES, FILE_BYTES};
 use thymeflask_tests::model::request::Request;
 
@@ -62,20 +62,6 @@ const TALL: Request = Request {
     in_lin: 239,
     out_lin: 240,
     ..FIGURE_1
-};
-
-/// The even field begins a line below the odd one.
-const FILTERED: Request = Request {
-    standard: 1,
-    in_pix: 800,
-    in_lin: 600,
-    in_ppl: 1024,
-    out_pix: 640,
-    out_lin: 255,
-    y_skip: 4095,
-    x_ofs: 200,
-    y_ofso: 89,
-    offset: 0,
 };
 
 #[test]
@@ -160,8 +146,8 @@ fn offsets_of_the_source() {
     turn(long, X_OFS, &[(1022, 0), (1023, 0), (1024, 6)]);
     turn(FIGURE_1, Y_OFSO, &[(0, 0), (1022, 0), (1023, 0)]);
     turn(FIGURE_1, Y_OFSO, &[(1024, 6), (65_535, 6)]);
-    turn(FILTERED, Y_OFSO, &[(0, 0), (1021, 0), (1022, 0)]);
-    turn(FILTERED, Y_OFSO, &[(1023, 6), (1024, 6), (65_535, 6)]);
+    turn(FIGURE_4, Y_OFSO, &[(0, 0), (1021, 0), (1022, 0)]);
+    turn(FIGURE_4, Y_OFSO, &[(1023, 6), (1024, 6), (65_535, 6)]);
 }
 
 /// HLEN has eleven bits in the map, so a line has 2,048 pixel clocks at most.

@@ -11,7 +11,7 @@ use lib.Dec.{T}
 use lib.ListN.{getD}
 use Rattle.bits.specs.Bit.{bit, has, number}
 use Rattle.bits.proofs.Tests.{tests, or-cases}
-use Rattle.fields.specs.Piece.{Field, holds, owns, width}
+use Rattle.pieces.specs.Piece.{Field, holds, owns, width}
 use Rattle.fields.specs.Fields.{pieces, lieAll, apartAll, distinct}
 use Rattle.fields.proofs.Lists.{field-laws}
 use Rattle.chip.specs.Map.{masks, masksFrom, namedAt, printed}

@@ -8,7 +8,7 @@ use Prim.Native.Nat.{ℕ, zero, suc, _+_}
 use lib.Dec.{T}
 use lib.ListN.{getD}
 use Rattle.bits.specs.Bit.{has, number}
-use Rattle.fields.specs.Piece.{Field, piece, owns, width}
+use Rattle.pieces.specs.Piece.{Field, piece, owns, width}
 use Rattle.fields.specs.Fields.{pieces, lieAll, distinct}
 use Rattle.fields.specs.Laws.{NoneShared}
 use Rattle.chip.specs.Map.{Row, row, rows, masksFrom, masks}

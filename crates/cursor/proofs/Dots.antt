@@ -9,7 +9,7 @@ use lib.Dec.{T}
 use lib.ListN.{length, getD, drop}
 use lib.Seq.{getD-take, getD-drop}
 use Rattle.bits.proofs.Tests.{tests}
-use Rattle.fields.specs.Piece.{holds, bitsAt, getPiece}
+use Rattle.pieces.specs.Piece.{holds, bitsAt, getPiece}
 use Rattle.fields.specs.Fields.{lies}
 use Rattle.cursor.specs.Cursor.{rowStart, rowCount, rowBytes, dot, DotsLie}
 

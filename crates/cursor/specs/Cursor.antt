@@ -7,7 +7,7 @@ use Prim.Native.Nat.{ℕ, _+_, _*_, _/_, _%_, _<_}
 use lib.Dec.{T, eqb, leb}
 use lib.ListN.{length, getD, take, drop}
 use denote.Ref.{RefT}
-use Rattle.fields.specs.Piece.{Piece, piece, holds, bitsAt, getPiece}
+use Rattle.pieces.specs.Piece.{Piece, piece, holds, bitsAt, getPiece}
 use Rattle.fields.specs.Fields.{lies}
 
 -- ---- rows

@@ -8,7 +8,7 @@ use lib.Dec.{T, ltb, ltb→lt, lt→ltb}
 use lib.ListN.{getD}
 use lib.Pow.{pow-add}
 use Rattle.bits.proofs.Tests.{and-iff}
-use Rattle.fields.specs.Piece.{Field, get, width}
+use Rattle.pieces.specs.Piece.{Field, get, width}
 use Rattle.fields.specs.Fields.{getAll, fitAll}
 use Rattle.fields.proofs.Pieces.{get-piece-lt}
 

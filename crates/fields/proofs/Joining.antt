@@ -6,7 +6,7 @@ use Prim.Native.Nat.{ℕ, _+_, _*_, _%_, _<_, _≤_}
 use native.Mathlib.Nat.{lt-of-lt-of-le}
 use native.Mathlib.Omega.{arith}
 use lib.Pow.{pow-mono}
-use Rattle.fields.specs.Piece.{Field, piece, get, width}
+use Rattle.pieces.specs.Piece.{Field, piece, get, width}
 use Rattle.fields.proofs.Fitting.{get-lt}
 
 module _ (file : List ℕ) (place : ℕ) (f : Field) (narrow : width f ≤ 16) where

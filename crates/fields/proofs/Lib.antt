@@ -1,7 +1,6 @@
 pub mod Pieces
 pub mod Putting
 pub mod Lists
-pub mod Shifts
 pub mod Fitting
 pub mod Joining
 pub mod Parts

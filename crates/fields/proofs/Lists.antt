@@ -10,7 +10,7 @@ use lib.Dec.{T, ltb, ltb→lt}
 use lib.ListN.{length, getD}
 use Rattle.bits.specs.Bit.{bit}
 use Rattle.bits.proofs.Tests.{or-left, or-right, and-iff, or-cases, is-false}
-use Rattle.fields.specs.Piece.{Piece, Field, holds, owns, put, width}
+use Rattle.pieces.specs.Piece.{Piece, Field, holds, owns, put, width}
 use Rattle.fields.specs.Fields.{pieces, putAll, getAll, lies, lieAll, apart, apartAll, distinct, fitAll}
 use Rattle.fields.specs.Laws.{Bytes, Disjoint, AllMeans, FieldLaws}
 use Rattle.fields.proofs.Putting.{apart-all, length-put, put-bytes, put-outside, get-cong, get-put}

@@ -6,7 +6,7 @@ use Prim.Native.Nat.{ℕ, zero, suc, _+_, _≤_}
 use native.Mathlib.Omega.{arith}
 use lib.ListN.{length, getD, take, drop}
 use lib.Seq.{drop-cons}
-use Rattle.fields.specs.Piece.{Field, put}
+use Rattle.pieces.specs.Piece.{Field, put}
 use Rattle.fields.specs.Fields.{putAll}
 
 put-none : (file : List ℕ) (fs : List Field) → putAll file fs [] ≡ file

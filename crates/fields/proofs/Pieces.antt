@@ -13,32 +13,12 @@ use lib.Dec.{T, eqb, leb, T-not}
 use lib.ListN.{length, getD, set, length-set}
 use lib.Seq.{getD-set-same, getD-set-other, set-getD}
 use Rattle.bits.specs.Bit.{bit}
-use Rattle.bits.proofs.Digits.{Bits, bit-lt, number-lt, bit-number, number-bit, number-cong, bit-ext}
-use Rattle.bits.proofs.Merging.{cond-lt}
+use Rattle.bits.proofs.Digits.{bit-lt, number-lt, bit-number, number-bit, number-cong, bit-ext}
 use Rattle.bits.proofs.Tests.{tests, or-cases, is-true, from-true, eqb-iff}
-use Rattle.fields.specs.Piece.{Piece, within, holds, bitsAt, withBits, getPiece, putPiece}
+use Rattle.pieces.specs.Piece.{Piece, within, holds, bitsAt, withBits, getPiece, putPiece}
+use Rattle.pieces.proofs.Bytes.{with-bits-lt, with-bits-bit}
 use Rattle.fields.specs.Fields.{apart}
 use Rattle.fields.specs.Laws.{Bytes}
-
--- ---- bits of a byte
-
-taken-bits : (byte position width v : ℕ)
-    → Bits (λ j. cond (within position width j) (bit v (j - position)) (bit byte j))
-taken-bits byte position width v j =
-    cond-lt (within position width j) (bit v (j - position)) (bit byte j) (bit-lt v (j - position))
-    (bit-lt byte j)
-
-pub with-bits-lt : (byte position width v : ℕ) → withBits byte position width v < 256
-unfolding withBits
-with-bits-lt byte position width v = number-lt 8 _ (taken-bits byte position width v)
-
-pub with-bits-bit : (byte position width v j : ℕ) → j < 8
-    → bit (withBits byte position width v) j
-    ≡ cond (within position width j) (bit v (j - position)) (bit byte j)
-unfolding withBits
-with-bits-bit byte position width v j l = bit-number 8 _ (taken-bits byte position width v) j l
-
--- ---- a piece
 
 pub length-put-piece : (file : List ℕ) (p : Piece) (v : ℕ) → length (putPiece file p v) ≡ length file
 unfolding putPiece

@@ -13,7 +13,7 @@ use lib.Pow.{mod-pow-add, high}
 use Rattle.bits.specs.Bit.{bit}
 use Rattle.bits.proofs.Digits.{bit-under}
 use Rattle.bits.proofs.Tests.{or-left, or-right, or-in, tests, and-iff, or-cases, is-false}
-use Rattle.fields.specs.Piece.{Piece, Field, holds, owns, getPiece, putPiece, get, put, width}
+use Rattle.pieces.specs.Piece.{Piece, Field, holds, owns, getPiece, putPiece, get, put, width}
 use Rattle.fields.specs.Fields.{lies, lieAll, apart, apartAll, distinct}
 use Rattle.fields.specs.Laws.{Bytes, PutMeans, nowhere, NoneShared}
 use Rattle.fields.proofs.Pieces.{length-put-piece, put-piece-bytes, put-piece-bit, get-piece-cong}

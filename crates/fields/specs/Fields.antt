@@ -5,7 +5,7 @@ use mathlib.Core.Bool.{Bool, true, false, not, _&&_, _||_}
 use mathlib.Core.List.{List, [], _∷_, _++_, map}
 use Prim.Native.Nat.{ℕ, _+_, _^_}
 use lib.Dec.{eqb, leb, ltb}
-use Rattle.fields.specs.Piece.{Piece, Field, get, put, width}
+use Rattle.pieces.specs.Piece.{Piece, Field, get, put, width}
 
 -- all pieces of a list of fields
 unfoldable pub pieces : List Field → Field

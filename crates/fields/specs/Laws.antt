@@ -7,7 +7,7 @@ use Prim.Native.Nat.{ℕ, _<_, _^_}
 use lib.Dec.{T}
 use lib.ListN.{length, getD}
 use Rattle.bits.specs.Bit.{bit}
-use Rattle.fields.specs.Piece.{Piece, Field, piece, holds, owns, get, put, width}
+use Rattle.pieces.specs.Piece.{Piece, Field, piece, holds, owns, get, put, width}
 use Rattle.fields.specs.Fields.{pieces, getAll, putAll, lieAll, distinct, fitAll}
 
 -- a piece without a bit, for what lies past the end of a list

@@ -1,4 +1,3 @@
-pub mod Piece
 pub mod Fields
 pub mod Laws
 pub mod Shapes

@@ -1,7 +1,7 @@
 -- The shapes that a field has in code, each with its pieces.
 -- Assumes nothing.
 use mathlib.Core.List.{[], _∷_}
-use Rattle.fields.specs.Piece.{Field, piece}
+use Rattle.pieces.specs.Piece.{Field, piece}
 use Rattle.fields.specs.declared.field.Bits.{Bits}
 use Rattle.fields.specs.declared.field.Split.{Split}
 use Rattle.fields.specs.declared.field.Three.{Three}

@@ -3,10 +3,10 @@
 ghost use mathlib.Core.Path.{_≡_};
 ghost use Prim.Native.Nat.{_+_, _<_, _≤_};
 ghost use lib.ListN.{length};
-ghost use Rattle.fields.specs.Piece.{get, put};
+ghost use Rattle.pieces.specs.Piece.{get, put};
 ghost use Rattle.fields.specs.Shapes.{bitsOf, splitOf, threeOf};
-use crate::piece::get_piece;
-use crate::piece::put_piece;
+use pieces::get_piece;
+use pieces::put_piece;
 
 // Bits of one place: the place, the lowest bit's position, and how many.
 pub struct Bits(pub usize, pub u32, pub u32);

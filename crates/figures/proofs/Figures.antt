@@ -3,7 +3,7 @@
 use mathlib.Core.Path.{refl}
 use Rattle.bits.specs.Bit.{bit, number}
 use Rattle.fields.specs.Fields.{putAll}
-use Rattle.fields.specs.Piece.{putPiece, withBits, put}
+use Rattle.pieces.specs.Piece.{putPiece, withBits, put}
 use Rattle.chip.specs.Fields.{pictureFields}
 use Rattle.chip.specs.File.{caption}
 use Rattle.chip.specs.Map.{printed, namedAt, masksFrom, masks}

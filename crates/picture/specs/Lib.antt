@@ -1,3 +1,1 @@
 pub mod Writing
-pub mod Reading
-pub mod Meaning

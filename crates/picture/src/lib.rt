@@ -1,4 +1,3 @@
-// A picture in a lent register file: written there, and read back.
-pub mod read;
+// A picture written into a lent register file.
 pub mod values;
 pub mod write;

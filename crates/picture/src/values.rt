@@ -1,8 +1,6 @@
 // The fields' numbers as one array, in the order of the table of fields.
 ghost use mathlib.Core.Path.{_≡_};
-ghost use lib.ListN.{length};
 ghost use Rattle.scaler.specs.Answer.{valuesOf};
-ghost use Rattle.picture.specs.Reading.{same};
 use scaler::request::Fields;
 
 pub fn values_of(f: Fields) -> [u32; 17]
@@ -27,19 +25,4 @@ pub fn values_of(f: Fields) -> [u32; 17]
         f.yiwgte as u32,
         f.yskip as u32,
     ]
-}
-
-// Whether two lists of numbers are the same.
-pub fn same_values(a: &[u32], b: &[u32]) -> bool
-    requires { ⌜ length (now a) ≡ length (now b) ⌝ }
-    ensures { λ r. ⌜ r ≡ same (now (a .entry)) (now (b .entry)) ⌝ }
-{
-    let mut i = 0;
-    while i < a.len() {
-        if a[i] != b[i] {
-            return false;
-        }
-        i += 1;
-    }
-    true
 }

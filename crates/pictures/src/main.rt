@@ -3,14 +3,14 @@
 // those that show the other replies. Reply 8 is not among them: it is proved that none gives it.
 ghost use mathlib.Core.Path.{_≡_};
 ghost use lib.IntN.{natAbs};
-use picture::read::read_picture;
+use checks::check;
 use picture::write::write_picture;
+use readback::read_picture;
 use reply::DONE;
 use report::hex_byte;
 use report::number;
 use report::number_8;
 use report::word;
-use scaler::check::check;
 use scaler::request::Fields;
 use scaler::request::PixelClocks;
 use scaler::request::Request;

@@ -4,7 +4,6 @@
 // plans are those of figure 7 of document 01, some between the pictures of figures 1 and 4, and refused ones.
 ghost use Prim.Native.Nat.{_<_, _≤_};
 ghost use lib.ListN.{length};
-use bits::store::store_run;
 use bus::state::State;
 use picture::write::write_picture;
 use plan::plan::plan;
@@ -14,6 +13,7 @@ use report::number_8;
 use report::word;
 use scaler::request::PixelClocks;
 use scaler::request::Request;
+use stores::store_run;
 
 // The slave address, for a write.
 const WRITE_ADDRESS: u8 = 0x88;

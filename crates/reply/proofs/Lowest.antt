@@ -1,12 +1,13 @@
 -- The lowest number that applies.
 -- Assumes nothing.
-use mathlib.Core.Path.{refl}
+use mathlib.Core.Path.{_≡_, refl}
 use mathlib.Core.Bool.{Bool, true, false, _&&_}
 use mathlib.Core.List.{List, [], _∷_}
 use mathlib.Core.Logic.{inl, inr, ⊎-elim}
-use Prim.Native.Nat.{ℕ, _<_}
+use Prim.Native.Nat.{ℕ, zero, suc, _<_}
 use native.Mathlib.Omega.{arith}
 use lib.Dec.{T, eqb, ltb, ltb→lt, eqb→eq, eqb-refl}
+use lib.ListN.{take, drop}
 use Rattle.bits.proofs.Tests.{and-iff, or-cases, or-in}
 use Rattle.reply.specs.Reply.{lowest, applies, rising, LowestMeans, LowestLaw}
 
@@ -58,3 +59,22 @@ unfolding lowest allBelow
 lowest-below n [] l t = l
 lowest-below n ((m, true) ∷ ms) l t = ltb→lt m n (and-iff (ltb m n) (allBelow n ms) .0 t .0)
 lowest-below n ((m, false) ∷ ms) l t = lowest-below n ms l (and-iff (ltb m n) (allBelow n ms) .0 t .1)
+
+-- the first tests decide where one of them applies, and else the others
+pub lowest-front : (k : ℕ) (ns : List (ℕ × Bool)) → (lowest (take k ns) ≡ 0 → ⊥)
+    → lowest ns ≡ lowest (take k ns)
+unfolding lowest
+lowest-front zero ns n = absurd (n refl)
+lowest-front (suc k) [] n = refl
+lowest-front (suc k) ((m, true) ∷ ms) n = refl
+lowest-front (suc k) ((m, false) ∷ ms) n = lowest-front k ms n
+
+pub lowest-back : (b k : ℕ) (ns : List (ℕ × Bool)) → T (rising b ns) → lowest (take k ns) ≡ 0
+    → lowest ns ≡ lowest (drop k ns)
+unfolding lowest rising
+lowest-back b zero ns r e = refl
+lowest-back b (suc k) [] r e = refl
+lowest-back b (suc k) ((m, true) ∷ ms) r e =
+    let l = ltb→lt b m (and-iff (ltb b m) (rising m ms) .0 r .0) in
+    absurd (omega arith)
+lowest-back b (suc k) ((m, false) ∷ ms) r e = lowest-back m k ms (and-iff (ltb b m) (rising m ms) .0 r .1) e

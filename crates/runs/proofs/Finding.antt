@@ -12,7 +12,7 @@ use lib.Seq.{take-suc-set}
 use Rattle.bits.proofs.Tests.{le-or-lt}
 use Rattle.bursts.specs.Burst.{heading}
 use Rattle.bursts.specs.Runs.{changed}
-use Rattle.runs.specs.Places.{NextChange}
+use Rattle.changes.specs.Places.{NextChange}
 use Rattle.runs.specs.Found.{runsAt, stuckAt, RunFound, headings, runBytes, RunsFound}
 use Rattle.runs.specs.declared.find.Extent.{Extent}
 use Rattle.runs.proofs.Joining.{runs-pass, stuck-pass}

@@ -12,7 +12,7 @@ use Rattle.bursts.specs.Runs.{Run, run, changed, bridged, joined, withPlace, ru
 use Rattle.bursts.specs.Stuck.{fixedAt, someFrom}
 use Rattle.chip.specs.File.{caption}
 use Rattle.chip.specs.Map.{masks}
-use Rattle.runs.specs.Places.{Unchanged}
+use Rattle.changes.specs.Places.{Unchanged}
 use Rattle.runs.specs.Found.{runsAt, stuckAt}
 use Rattle.runs.proofs.Fixing.{fixed-same}
 

@@ -4,5 +4,4 @@ pub mod Fixing
 pub mod Gaps
 pub mod Joining
 pub mod Opening
-pub mod Places
 pub mod Stuck

@@ -14,7 +14,7 @@ use Rattle.bursts.specs.Runs.{run, changed, bridged, joined, withPlace, runsFro
 use Rattle.bursts.specs.Stuck.{someFrom}
 use Rattle.bursts.proofs.Bridges.{bridged-here}
 use Rattle.chip.specs.File.{registersEnd, caption}
-use Rattle.runs.specs.Places.{NextChange}
+use Rattle.changes.specs.Places.{NextChange}
 use Rattle.runs.specs.Found.{runsAt, stuckAt, RunFound}
 use Rattle.runs.proofs.Behind.{fixed-behind}
 use Rattle.runs.proofs.Joining.{join-near, join-far, runs-step, runs-pass}

@@ -16,11 +16,11 @@ use Rattle.bursts.specs.Stuck.{bitsAgree, fixedAt}
 use Rattle.bursts.proofs.Bridges.{either}
 use Rattle.chip.specs.File.{caption}
 use Rattle.chip.specs.Map.{masks}
-use Rattle.runs.specs.Places.{sameAt, sameFour}
+use Rattle.changes.specs.Places.{sameAt, sameFour}
 use Rattle.runs.specs.Found.{stuckAt}
 use Rattle.runs.proofs.Fixing.{fixed-free, fixed-unchanged}
 use Rattle.runs.proofs.Joining.{stuck-step}
-use Rattle.runs.proofs.Places.{unchanged-at, four-at}
+use Rattle.changes.proofs.Places.{unchanged-at, four-at}
 
 -- the first caption byte
 abbrev captions : ℕ

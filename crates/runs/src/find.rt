@@ -6,8 +6,8 @@ ghost use lib.ListN.{length};
 ghost use Rattle.bursts.specs.Runs.{bridged};
 ghost use Rattle.chip.specs.File.{caption, fileLength};
 ghost use Rattle.runs.specs.Found.{ChangeAt, RunFound, RunsFound};
-use crate::changes::next_change;
 use crate::fixed::any_fixed;
+use changes::next_change;
 use chip::file::FILE_LENGTH;
 use chip::file::is_caption;
 

@@ -3,8 +3,8 @@ ghost use mathlib.Core.Path.{_≡_};
 ghost use lib.ListN.{length};
 ghost use Rattle.chip.specs.File.{fileLength};
 ghost use Rattle.runs.specs.Found.{stuckAt};
-use crate::changes::same_four;
 use bits::merge::merge_byte;
+use changes::same_four;
 use chip::file::FILE_LENGTH;
 use chip::map::mask_table;
 

@@ -1,4 +1,3 @@
 // The runs of changed places between two register files: what a list of writes has to write.
-mod changes;
 pub mod find;
 mod fixed;

@@ -9,7 +9,7 @@ use native.Mathlib.Omega.{arith}
 use borrow.Author.Tests.{eq-eqb, ne-eqb}
 use lib.Dec.{T, eqb}
 use lib.IntN.{ℤ, pos}
-use Rattle.fields.specs.Piece.{width}
+use Rattle.pieces.specs.Piece.{width}
 use Rattle.chip.specs.Fields.{pictureFields}
 use Rattle.scaler.specs.Acceptable.{fits}
 use Rattle.scaler.specs.Answer.{numbersOf}

@@ -12,7 +12,7 @@ use lib.IntN.{ℤ, pos, negsuc, natAbs}
 use lib.ListN.{getD}
 use lib.Signed.{leZ, ltZ}
 use Rattle.bits.proofs.Tests.{and-iff, or-false-iff, refusals, is-true}
-use Rattle.fields.specs.Piece.{Field, width}
+use Rattle.pieces.specs.Piece.{Field, width}
 use Rattle.scaler.specs.Acceptable.{fits}
 use Rattle.scaler.specs.Limits.{outside, weightsPass}
 use Rattle.scaler.specs.Numbers.{yiwgtoOf, yiwgteOf}

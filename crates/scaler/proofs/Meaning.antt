@@ -11,7 +11,7 @@ use lib.Dec.{eqb, eqb·suc-zero}
 use lib.IntN.{pos}
 use lib.ListN.{replicate}
 use Rattle.bits.proofs.Tests.{or-in, is-false}
-use Rattle.fields.specs.Piece.{width}
+use Rattle.pieces.specs.Piece.{width}
 use Rattle.chip.specs.Fields.{pictureFields}
 use Rattle.reply.specs.Reply.{applies}
 use Rattle.scaler.specs.Acceptable.{Acceptable}

@@ -1,4 +1,4 @@
--- The vertical numbers, from one division of N by D.
+-- The weights, from one division of N by D.
 -- Assumes nothing.
 use mathlib.Core.Bool.{Bool, true, false, true≢false, cond, _||_}
 use mathlib.Core.Logic.{⊎-elim}
@@ -7,16 +7,13 @@ use Prim.Native.Nat.{ℕ, suc, _+_, _-_, _*_, _/_, _%_, _^_, _<_, _≤_, zero-le
 use native.Mathlib.Nat.{mul-le-mul}
 use native.Mathlib.Omega.{arith}
 use borrow.Author.Tests.{le-leb, lt-leb, le-ltb}
-use lib.Dec.{leb, ltb}
+use lib.Dec.{ltb}
 use lib.IntN.{pos, negsuc, _-ℤ_}
 use Rattle.bits.proofs.Tests.{le-or-lt, refusals}
 use Rattle.scaler.specs.Limits.{outside, weightsPass}
 use Rattle.scaler.specs.Numbers.{floor, reached, numOf, denOf, yiwgtoOf, yiwgteOf}
-use Rattle.scaler.specs.Parts.{verticalOf}
-use Rattle.scaler.specs.Rounding.{nearest}
 use Rattle.scaler.proofs.Integers.{sub-pos, sub-neg}
-use Rattle.scaler.proofs.Rounds.{nearest-up, nearest-down, half, thrice, reached-yes, reached-no}
-use Rattle.scaler.proofs.Rounds.{taken-away}
+use Rattle.scaler.proofs.Rounds.{half, thrice, reached-yes, reached-no, taken-away}
 
 -- what YSKIP x D is taken from
 abbrev pub numerator : ℕ → ℕ → ℕ → ℕ
@@ -59,36 +56,6 @@ module _ (n d s : ℕ) (h : 0 < d) where
 
   pub top-late : n / d < s → numerator n d s / d ≡ 3 * (n / d) + 3 * (n % d) / d
   top-late e = rw (lt-leb (s * d) n (reached-no n d h s e)) (thrice n d h)
-
-  -- the whole vertical part, in both cases
-  nearest-half : nearest n d ≡ n / d + cond (leb d (2 * (n % d))) 1 0
-  nearest-half =
-      ⊎-elim (λ l. rw (le-leb d (2 * (n % d)) l) (nearest-up n d h l))
-      (λ l. rw (lt-leb d (2 * (n % d)) l, nearest-down n d h l) (omega arith))
-      (le-or-lt d (2 * (n % d)))
-
-  pub vertical-early : s ≤ n / d
-      → verticalOf n d s ≡ record {
-        yinc = n / d + cond (leb d (2 * (n % d))) 1 0;
-        yiwgto = 2048 + n / d / 2;
-        top = n / d;
-        late = 0;
-      }
-  unfolding verticalOf yiwgtoOf
-  vertical-early e =
-      rw (nearest-half, half n d h, le-leb (s * d) n (reached-yes n d h s e))
-
-  pub vertical-late : n / d < s
-      → verticalOf n d s
-      ≡ record {
-        yinc = n / d + cond (leb d (2 * (n % d))) 1 0;
-        yiwgto = 2048 + n / d / 2;
-        top = 3 * (n / d) + 3 * (n % d) / d;
-        late = 1;
-      }
-  unfolding verticalOf yiwgtoOf
-  vertical-late e =
-      rw (nearest-half, half n d h, lt-leb (s * d) n (reached-no n d h s e), thrice n d h)
 
   -- ---- the tests of the weights
 

@@ -8,7 +8,7 @@ use Prim.Native.Nat.{_+_, _*_, _%_, _^_, _≤_}
 use lib.Dec.{T}
 use lib.IntN.{ℤ, pos, negsuc}
 use lib.Signed.{leZ, ltZ, _≤ℤ_}
-use Rattle.fields.specs.Piece.{Field, width}
+use Rattle.pieces.specs.Piece.{Field, width}
 use Rattle.chip.specs.Fields.{pictureFields}
 use Rattle.scaler.specs.Answer.{numbersOf}
 use Rattle.scaler.specs.Limits.{linesFor, mostPixels, mostLines}

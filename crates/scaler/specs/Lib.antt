@@ -1,7 +1,6 @@
 pub mod Rounding
 pub mod Numbers
 pub mod Limits
-pub mod Parts
 pub mod Answer
 pub mod Acceptable
 pub mod Meaning

@@ -12,9 +12,9 @@ use Rattle.bus.specs.declared.state.Answer.{Answer}
 use Rattle.lines.specs.Lines.{hex, addedByte, line}
 use Rattle.records.specs.Records.{bodyLength, whole}
 use Rattle.records.proofs.Steps.{whole-known, whole-long}
-use Rattle.session.specs.Effects.{outcome}
+use Rattle.effects.specs.Effects.{outcome}
+use Rattle.effects.proofs.Effects.{shown-byte, shown-none}
 use Rattle.session.specs.Runs.{lineOf, play, longestSession, longestPrint}
-use Rattle.session.proofs.Effects.{shown-byte, shown-none}
 use Rattle.session.proofs.Plays.{play-done, play-broken}
 
 -- a line has five bytes, and those that are added

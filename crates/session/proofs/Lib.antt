@@ -1,4 +1,3 @@
-pub mod Effects
 pub mod Plays
 pub mod Fitting
 pub mod Playing

@@ -30,16 +30,16 @@ use Rattle.scaler.specs.Limits.{linesFor, numFor, denFor, requestTests, request
 use Rattle.scaler.specs.declared.request.Request.{Request}
 use Rattle.scaler.proofs.Meaning.{answers-mean, reply-is}
 use Rattle.picture.specs.Writing as picture
-use Rattle.picture.proofs.Meaning.{pictures-mean}
+use Rattle.readback.proofs.Meaning.{pictures-mean}
 use Rattle.requests.specs.Requests.{requestOf}
 use Rattle.lines.specs.Lines.{glyph, hex, addedByte, line}
 use Rattle.records.specs.Records.{bodyLength, whole}
-use Rattle.session.specs.Effects.{outcome, pictured, nothing, shown}
+use Rattle.effects.specs.Effects.{outcome, pictured, nothing, shown}
+use Rattle.effects.specs.Parts.{Body, Does}
+use Rattle.effects.proofs.Effects.{picture-does, body-long, last-kind, register-none, register-does}
+use Rattle.effects.proofs.Effects.{cell-fits, colour-does, cursor-does, show-does}
 use Rattle.session.specs.Meaning.{Given, RecordMeans, SessionsMean}
-use Rattle.session.specs.Parts.{Body, Does}
 use Rattle.session.specs.Runs.{play, played, benchState, runAnswer, longestSession, longestPrint}
-use Rattle.session.proofs.Effects.{picture-does, body-long, last-kind, register-none, register-does}
-use Rattle.session.proofs.Effects.{cell-fits, colour-does, cursor-does, show-does}
 use Rattle.session.proofs.Fitting.{session-fits, line-long}
 use Rattle.session.proofs.Plays.{play-done, play-broken}
 

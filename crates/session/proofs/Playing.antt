@@ -13,8 +13,8 @@ use Rattle.bus.specs.declared.state.State.{State}
 use Rattle.lines.specs.Lines.{line}
 use Rattle.records.specs.Records.{bodyLength, whole}
 use Rattle.records.proofs.Steps.{RecordTells, BrokenTells, whole-known}
-use Rattle.session.specs.Effects.{outcome}
-use Rattle.session.specs.Parts.{Lent, Body}
+use Rattle.effects.specs.Effects.{outcome}
+use Rattle.effects.specs.Parts.{Lent, Body}
 use Rattle.session.specs.Runs.{lineOf, printing, play, longestSession, longestPrint}
 use Rattle.session.proofs.Fitting.{session-fits}
 use Rattle.session.proofs.Plays.{play-done, play-broken, play-read}

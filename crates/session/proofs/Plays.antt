@@ -9,7 +9,7 @@ use Rattle.reply.specs.Reply.{wrongLength}
 use Rattle.bus.specs.declared.state.State.{State}
 use Rattle.lines.specs.Lines.{line}
 use Rattle.records.specs.Records.{bodyLength, whole}
-use Rattle.session.specs.Effects.{outcome}
+use Rattle.effects.specs.Effects.{outcome}
 use Rattle.session.specs.Runs.{lineOf, printing, play}
 
 module _ (s : State) (kind : ℕ) (left : List ℕ) where

@@ -1,4 +1,2 @@
-pub mod Effects
-pub mod Parts
 pub mod Runs
 pub mod Meaning

@@ -1,4 +1,4 @@
--- What sessions mean: theorems about the definitions of Effects.antt and Runs.antt.
+-- What sessions mean: theorems about the definitions of Runs.antt and of effects/specs/Effects.antt.
 -- Assumes nothing.
 use mathlib.Core.Path.{_≡_}
 use mathlib.Core.List.{List, [], _∷_}
@@ -9,8 +9,8 @@ use Rattle.fields.specs.Laws.{Bytes}
 use Rattle.reply.specs.Reply.{done}
 use Rattle.bus.specs.declared.state.State.{State}
 use Rattle.bus.specs.Meaning.{Sized}
-use Rattle.session.specs.Effects.{outcome}
-use Rattle.session.specs.Parts.{Body}
+use Rattle.effects.specs.Effects.{outcome}
+use Rattle.effects.specs.Parts.{Body}
 use Rattle.session.specs.Runs.{played, benchState, runAnswer, longestSession, longestPrint}
 
 -- a reply that a whole record can give

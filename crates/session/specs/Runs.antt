@@ -11,7 +11,7 @@ use Rattle.bus.specs.declared.state.Answer.{Answer}
 use Rattle.bus.specs.States.{freshAnswer}
 use Rattle.records.specs.Records.{bodyLength, whole}
 use Rattle.lines.specs.Lines.{line}
-use Rattle.session.specs.Effects.{outcome, shown}
+use Rattle.effects.specs.Effects.{outcome, shown}
 use Rattle.session.specs.declared.run.Ran.{Ran}
 
 -- the next state, and the bytes printed

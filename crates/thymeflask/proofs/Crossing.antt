@@ -9,7 +9,7 @@ use borrow.Author.Tests.{eqb-true, eq-eqb, ne-eqb}
 use lib.Dec.{eqb}
 use lib.ListN.{length, getD}
 use Rattle.picture.specs.Writing as writing
-use Rattle.picture.proofs.Meaning.{pictures-mean}
+use Rattle.readback.proofs.Meaning.{pictures-mean}
 use Rattle.requests.specs.Requests.{requestOf}
 use Rattle.requests.proofs.Cross.{requests-cross}
 use Rattle.thymeflask.specs.Pictures.{checkReply, checkAfter, writeReply, writeAfter}

@@ -11,7 +11,7 @@ use Rattle.reply.specs.Reply.{done, wrongLength}
 use Rattle.scaler.specs.Answer.{valuesOf, checked}
 use Rattle.picture.specs.Writing.{fileAfter}
 use Rattle.picture.specs.Writing as writing
-use Rattle.picture.specs.Reading.{readAnswer}
+use Rattle.readback.specs.Reading.{readAnswer}
 use Rattle.requests.specs.Requests.{requestOf, requestBytes}
 use Rattle.words.specs.Words.{wordsOf}
 

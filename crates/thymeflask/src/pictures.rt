@@ -2,14 +2,14 @@
 ghost use mathlib.Core.Path.{_≡_};
 ghost use Rattle.thymeflask.specs.Pictures.{checkReply, checkAfter, writeReply, writeAfter};
 ghost use Rattle.thymeflask.specs.Pictures.{readReply, readAfter};
-use picture::read::read_picture;
+use bodies::put::put_request;
+use bodies::request_of;
+use checks::check;
 use picture::values::values_of;
 use picture::write::write_picture;
+use readback::read_picture;
 use reply::DONE;
 use reply::WRONG_LENGTH;
-use requests::put::put_request;
-use requests::request_of;
-use scaler::check::check;
 use words::put_words;
 
 // The lengths of a lent request, and of lent fields.

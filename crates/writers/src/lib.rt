@@ -11,9 +11,9 @@ ghost use Rattle.transactions.specs.Writes.{registersPass, cellsPass};
 ghost use Rattle.writers.specs.Cells.{cellsRun};
 use bits::merge::merge_byte;
 use bits::merge::merge_run;
-use bits::store::store_run;
 use chip::map::mask_table;
-use chip::mask::mask_of;
+use masks::mask_of;
+use stores::store_run;
 use transactions::start::start_of;
 
 // Registers from a subaddress on: named bits take the new value, the others stay. One byte needs one mask;

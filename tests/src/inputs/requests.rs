@@ -20,6 +20,20 @@ pub const FIGURE_1: Request = Request {
     offset: 0,
 };
 
+/// Figure 4: the even field begins a line below the odd one.
+pub const FIGURE_4: Request = Request {
+    standard: 1,
+    in_pix: 800,
+    in_lin: 600,
+    in_ppl: 1024,
+    out_pix: 640,
+    out_lin: 255,
+    y_skip: 4095,
+    x_ofs: 200,
+    y_ofso: 89,
+    offset: 0,
+};
+
 /// A picture that is accepted.
 pub fn accepted(random: &mut Random) -> Request {
     loop {

@@ -2,7 +2,7 @@
 -- Assumes nothing.
 use native.Mathlib.Omega.{arith}
 use borrow.Author.Needs.{needs}
-use Rattle.fields.specs.Piece.{get, getPiece}
+use Rattle.pieces.specs.Piece.{get, getPiece}
 use Rattle.fields.proofs.field.get_bits.Statement.{statement}
 use Rattle.fields.proofs.field.get_bits.Tie as tie
 

@@ -1,7 +1,7 @@
 -- `fields::field::get_three` meets its contract: the low byte and the two above it, joined.
 -- Assumes nothing.
 use borrow.Author.Needs.{needs}
-use Rattle.fields.specs.Piece.{width}
+use Rattle.pieces.specs.Piece.{width}
 use Rattle.fields.proofs.Joining.{fits, joined}
 use Rattle.fields.proofs.field.get_three.Statement.{statement}
 use Rattle.fields.proofs.field.get_three.Tie as tie

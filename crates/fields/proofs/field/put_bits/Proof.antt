@@ -1,7 +1,7 @@
 -- `fields::field::put_bits` meets its contract: a field of one piece.
 -- Assumes nothing.
 use borrow.Author.Needs.{needs}
-use Rattle.fields.specs.Piece.{put, putPiece}
+use Rattle.pieces.specs.Piece.{put, putPiece}
 use Rattle.fields.proofs.field.put_bits.Statement.{statement}
 use Rattle.fields.proofs.field.put_bits.Tie as tie
 

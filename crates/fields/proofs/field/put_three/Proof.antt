@@ -1,7 +1,7 @@
 -- `fields::field::put_three` meets its contract: the low byte, then what is left of the number above it.
 -- Assumes nothing.
 use borrow.Author.Needs.{needs}
-use Rattle.fields.specs.Piece.{put}
+use Rattle.pieces.specs.Piece.{put}
 use Rattle.fields.proofs.field.put_three.Statement.{statement}
 use Rattle.fields.proofs.field.put_three.Tie as tie
 

@@ -6,7 +6,7 @@ use native.Mathlib.Omega.{arith}
 use borrow.Author.Needs.{needs}
 use lib.ListN.{length}
 use Rattle.records.proofs.Steps.{RecordTells, BrokenTells, record-tells, broken-tells, end-tells}
-use Rattle.session.specs.Parts.{inParts, Lent}
+use Rattle.effects.specs.Parts.{inParts, Lent}
 use Rattle.session.proofs.Playing.{Playing, play-first, body-there, text-fits, play-more, word-fits}
 use Rattle.session.proofs.Playing.{play-last, all-state, all-printed, all-count}
 use Rattle.session.proofs.run.walk.Statement.{statement}

@@ -1,0 +1,5 @@
+pub mod Back
+pub mod Same
+pub mod Answers
+pub mod Meaning
+pub mod Offsets
