@@ -44,14 +44,14 @@ module _ (rule : List ℕ → ℕ → List ℕ → List ℕ) (put : ℕ → ℕ 
   pub rule_long : (file : List ℕ) (at : ℕ) (bytes : List ℕ) → length (rule file at bytes) ≡ length file
   rule_long file at [] = rw (none file at)
   rule_long file at (b ∷ bytes) =
-      rw (more file at b bytes) (rule_long _ (suc at) bytes ∙ length-set file at _)
+      rw (more file at b bytes) (rule_long (set file at (put at (get_or file at 0) b)) (suc at) bytes ∙ length-set file at _)
 
   pub rule_outside : (file : List ℕ) (at : ℕ) (bytes : List ℕ) (p : ℕ) → (p < at) ⊎ (at + length bytes ≤ p)
       → get_or (rule file at bytes) p 0 ≡ get_or file p 0
   rule_outside file at [] p h = rw (none file at)
   rule_outside file at (b ∷ bytes) p h =
       rw (more file at b bytes)
-      (rule_outside _ (suc at) bytes p (⊎_elim (λ l. inl (omega arith)) (λ l. inr (omega arith)) h)
+      (rule_outside (set file at (put at (get_or file at 0) b)) (suc at) bytes p (⊎_elim (λ l. inl (omega arith)) (λ l. inr (omega arith)) h)
       ∙ get_or-set_other file at p _ 0 (⊎_elim (λ l. omega arith) (λ l. omega arith) h))
 
   pub rule_inside : (file : List ℕ) (at : ℕ) (bytes : List ℕ) → at + length bytes ≤ length file → (i : ℕ)
@@ -60,7 +60,7 @@ module _ (rule : List ℕ → ℕ → List ℕ → List ℕ) (put : ℕ → ℕ 
   rule_inside file at [] f i l = absurd (not-suc-le-zero l)
   rule_inside file at (b ∷ bytes) f zero l =
       rw (more file at b bytes, add-zero at)
-      (rule_outside _ (suc at) bytes at (inl (omega arith)) ∙ get_or-set_same file at _ 0 (omega arith))
+      (rule_outside (set file at (put at (get_or file at 0) b)) (suc at) bytes at (inl (omega arith)) ∙ get_or-set_same file at _ 0 (omega arith))
   rule_inside file at (b ∷ bytes) f (suc i) l =
       let file' = set file at (put at (get_or file at 0) b) in
       let e : at + suc i ≡ suc at + i = omega arith in

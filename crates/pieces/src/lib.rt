@@ -1,4 +1,6 @@
 // get_piece and put_piece: some bits of one byte. Leaves for other crates: the bits must lie in the byte.
+#![tactic(auto)]
+
 ghost use Rattle.std.specs.Prelude.{◌≡◌, ◌+◌, ◌-◌, ◌^◌, ◌≤◌};
 ghost use Rattle.pieces.specs.Piece.{bits_at, with_bits};
 

@@ -1,4 +1,6 @@
 // store_run: a run of bytes into a lent file, as it is. A leaf for other crates: the run must lie in the file.
+#![tactic(auto)]
+
 ghost use Rattle.std.specs.Prelude.{◌≡◌, ◌+◌, ◌≤◌, ◌<◌, length};
 ghost use Rattle.std.proofs.lemmas.List.Edits.{sets};
 

@@ -2,12 +2,8 @@
 -- Assumes nothing.
 use native.Mathlib.Omega.{arith}
 use Rattle.bits.proofs.Merging.{merge_halves}
-use Rattle.bits.proofs.merge.merge_byte.Statement.{statement}
-use Rattle.bits.proofs.merge.merge_byte.Tie as tie
+use Rattle.bits.proofs.merge.merge_byte.Goals as goal
 
-returns : tie.Need-returns
+pub returns : goal.returns
 returns c = merge_halves c.args.mask c.args.old c.args.new (omega arith) (omega arith)
     (omega arith)
-
-pub merge-byte-spec : {M : Type 1} → statement M
-merge-byte-spec = tie.close (tie.spec returns)

@@ -1,0 +1,19 @@
+-- `stores::store_run` meets its contract: what is left of the run gives the whole. The measure is what
+-- is left of the bytes.
+-- Assumes nothing.
+-- what a place takes: the byte itself
+use mathlib.Core.Path.{◌≡◌, refl, ◌∙◌}
+use Prim.Native.Nat.{ℕ, ◌+◌, ◌-◌, ◌≤◌}
+use native.Mathlib.Nat.{add-zero}
+use borrow.Author.Rules.{rules}
+use lib.ListN.{length, drop}
+use lib.Seq.{sets}
+use Rattle.bits.proofs.Runs.{turn_next, turn_last}
+use Rattle.stores.proofs.store_run.Given as goal
+
+abbrev pub invariant-loop-i : goal.invariant-loop-i
+invariant-loop-i l = (l.i ≤ length l.bytes) × (length l.file ≡ length l.initial.file)
+    × (sets l.file (l.at + l.i) (drop l.i l.bytes) ≡ sets l.initial.file l.at l.bytes)
+
+abbrev pub decreases-loop-i : goal.decreases-loop-i
+decreases-loop-i l = length l.bytes - l.i
