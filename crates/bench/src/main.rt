@@ -1,6 +1,8 @@
 // The bench: a session is read from standard input and done on a fresh SAA7103, and what it prints is
 // written to standard output. Where a read or a write fails, a line on standard error says so; after a failed
 // read nothing is done, and nothing else is written.
+#![tactic(auto)]
+
 ghost use Rattle.std.specs.Prelude.{◌≡◌, ◌+◌, length, take};
 ghost use Rattle.io.specs.Counts.{IsPrefixLen};
 ghost use Rattle.session.specs.Runs.{played, bench_state, longest_session, longest_print};

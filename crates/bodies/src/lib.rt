@@ -1,4 +1,6 @@
 // The request in the 18 bytes of a record of a session: request_of reads it, and put_request puts it there.
+#![tactic(auto)]
+
 ghost use Rattle.std.specs.Prelude.{◌≡◌, ◌+◌, ◌*◌, length};
 ghost use Rattle.requests.specs.Requests.{signed, request_of};
 

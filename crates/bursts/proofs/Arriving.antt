@@ -31,7 +31,7 @@ module _ (masks : List ℕ) where
   replay_long file [] = refl
   replay_long file (b ∷ bs) =
       let long = rule_long (merge_run masks) (masked masks) (run_none masks) (run_more masks) in
-      replay_long _ bs ∙ long file b.place b.bytes
+      replay_long (merge_run masks file b.place b.bytes) bs ∙ long file b.place b.bytes
 
   pub held_or_kept : (p : ℕ) (file : List ℕ) (bs : List Burst)
       → Within p (spans bs) ⊎ (get_or (replay masks file bs) p 0 ≡ get_or file p 0)

@@ -1,2 +1,4 @@
 // The state of the chip, and bus writes and reads on it.
+#![tactic(auto)]
+
 pub mod state;

@@ -1,5 +1,7 @@
 // Where two register files differ: next_change, the first such place from a place on, and same_four, which
 // compares four places. Leaves for other crates: they ask for two files and a place in them.
+#![tactic(auto)]
+
 ghost use Rattle.std.specs.Prelude.{◌≡◌, ◌+◌, ◌≤◌, length};
 ghost use Rattle.chip.specs.File.{file_length};
 ghost use Rattle.changes.specs.Places.{same_four, same_eight, Unchanged, NextChange};

@@ -1,5 +1,7 @@
 // check: whether a picture is accepted, and the numbers that it needs in the chip's fields. It has three steps,
 // limits_reply, scale and numbers, each small enough to be compiled into a caller that takes them one by one.
+#![tactic(auto)]
+
 ghost use Rattle.std.specs.Prelude.{◌≡◌};
 ghost use Rattle.reply.specs.Reply.{done};
 ghost use Rattle.scaler.specs.Limits.{request_reply, lines_for};

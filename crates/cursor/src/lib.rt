@@ -1,4 +1,6 @@
 // cursor_row: one row of a lent cursor map, as a part of the caller's own bytes.
+#![tactic(auto)]
+
 ghost use Rattle.cursor.specs.Cursor.{row_start, row_count, PartIs};
 
 // A map has 32 rows of eight bytes.

@@ -1,5 +1,7 @@
 // put_line and put_line_with: the line that a record of a session prints, put into a lent buffer. Leaves for
 // other crates: the line must lie in the buffer.
+#![tactic(auto)]
+
 ghost use Rattle.std.specs.Prelude.{◌≡◌, [], ◌+◌, ◌<◌, ◌≤◌, length};
 ghost use Rattle.std.proofs.lemmas.List.Edits.{sets};
 ghost use Rattle.lines.specs.Lines.{glyph, line, added_byte};

@@ -1,4 +1,6 @@
 // The bit map at one place, for a caller that looks up one: a match becomes a table that is not built anew.
+#![tactic(auto)]
+
 ghost use Rattle.std.specs.Prelude.{◌≡◌, get_or};
 ghost use Rattle.chip.specs.Map.{masks};
 

@@ -1,3 +1,5 @@
 // A picture written into a lent register file.
+#![tactic(auto)]
+
 pub mod values;
 pub mod write;

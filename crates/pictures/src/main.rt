@@ -1,6 +1,8 @@
 // Pictures: for each request the check's reply and the fields' numbers, then the reply to writing it into a
 // file of 256 zero bytes, and what that file reads as. The requests are figures 1 to 6 of document 01 and
 // those that show the other replies. Reply 8 is not among them: it is proved that none gives it.
+#![tactic(auto)]
+
 ghost use Rattle.std.specs.Prelude.{◌≡◌, nat_abs};
 
 use checks::check;

@@ -2,6 +2,8 @@
 // printed with its reply, bytes and bursts. Then its bursts are sent in turn, each as a bus write, to a
 // fresh SAA7103 that has the first file, and the file that they leave is compared with the wanted one. The
 // plans are those of figure 7 of document 01, some between the pictures of figures 1 and 4, and refused ones.
+#![tactic(auto)]
+
 ghost use Rattle.std.specs.Prelude.{◌<◌, ◌≤◌, length};
 
 use bus::state::State;

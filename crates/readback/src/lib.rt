@@ -1,4 +1,6 @@
 // read_picture: the request that a lent register file reads as.
+#![tactic(auto)]
+
 ghost use Rattle.std.specs.Prelude.{◌≡◌, ◌-◌, T, pos, ◌-ℤ◌, length};
 ghost use Rattle.fields.specs.Fields.{fit_all};
 ghost use Rattle.chip.specs.Fields.{picture_fields};

@@ -1,3 +1,5 @@
 // The records of a session: what stands at a place of a lent session, and the reader that asks it.
+#![tactic(auto)]
+
 pub mod reader;
 pub mod record;

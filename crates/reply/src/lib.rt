@@ -1,4 +1,5 @@
 // The numbers of the answers, as document 01 lists them.
+#![tactic(auto)]
 
 // Done.
 pub const DONE: u8 = 0;

@@ -1,5 +1,7 @@
 // Printing on standard output, for the programs that print what the tests compare. A write that fails is not
 // told: what is missing then is seen in the comparison. No contract can speak of what is printed.
+#![tactic(auto)]
+
 use libc::STDOUT_FILENO;
 
 pub fn word(text: &[u8]) {

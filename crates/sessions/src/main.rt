@@ -1,6 +1,8 @@
 // Sessions: each with its name and its bytes, what it prints, and some bytes of the state that it leaves.
 // They are the empty one, one of every kind, those that are cut short or of unknown kind, the longest, one
 // that is too long, and one whose buffer is too short.
+#![tactic(auto)]
+
 use bus::state::State;
 use report::{number, show_bytes, word};
 use session::run::run;

@@ -1,6 +1,8 @@
 // put_values and get_values: a number for each of the picture's fields, in this order, put into a lent file
 // or got from it. Leaves for other crates: the file must have its 256 bytes. Each field is named once, by
 // where its bits stand, so that both go to the same bits.
+#![tactic(auto)]
+
 ghost use Rattle.std.specs.Prelude.{◌≡◌, length, take, drop};
 ghost use Rattle.fields.specs.Fields.{get_all, put_all};
 ghost use Rattle.chip.specs.Fields.{picture_fields};

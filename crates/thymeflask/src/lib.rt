@@ -1,4 +1,6 @@
 // The C interface: each function takes what is lent as a pointer and a length, and asks nothing of its bytes.
+#![tactic(auto)]
+
 pub mod pictures;
 pub mod plans;
 pub mod rows;

@@ -1,4 +1,6 @@
 // Bus traffic with a fresh SAA7103: each transaction with its reply, and what the state then holds.
+#![tactic(auto)]
+
 use bus::state::State;
 use cursor::cursor_row;
 use report::{hex_bytes, number_8, show_bytes, word};

@@ -1,6 +1,8 @@
 // The leaf writers: data that has been tested goes into a lent file, or into the cells of a lent
 // cursor map or colour table.
 // Each asks what the tests have shown: the lent length, and that the run does not pass its end.
+#![tactic(auto)]
+
 ghost use Rattle.std.specs.Prelude.{◌≡◌, false, ◌*◌, ◌<◌, length};
 ghost use Rattle.bits.specs.Run.{merge_run};
 ghost use Rattle.chip.specs.Map.{masks};

@@ -5,18 +5,10 @@ use native.Mathlib.Nat.{zero-add}
 use borrow.Author.Rules.{rules}
 use Rattle.lines.specs.Lines.{glyph}
 use Rattle.lines.proofs.Digits.{glyph_at}
-use Rattle.lines.proofs.character.Statement.{statement}
-use Rattle.lines.proofs.character.Tie as tie
+use Rattle.lines.proofs.character.Goals as goal
 
-element-copy-out-result : tie.Need-element-copy-out-result
-element-copy-out-result c = search rules
-
-returns : tie.Need-returns
+pub returns : goal.returns
 unfolding glyph
-returns c =
-    let s = c.before.before in
+returns c = let s = c in
     let d = s.args.digit in
     glyph_at 0 16 d s.requires ∙ ap glyph (zero-add d)
-
-pub character-spec : {M : Type 1} → statement M
-character-spec = tie.close (tie.spec element-copy-out-result returns)

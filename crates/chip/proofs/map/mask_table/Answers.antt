@@ -3,12 +3,8 @@
 -- Assumes nothing.
 use mathlib.Core.Path.{refl}
 use Rattle.chip.specs.Map.{masks, masks_from, named_at, printed}
-use Rattle.chip.proofs.map.mask_table.Statement.{statement}
-use Rattle.chip.proofs.map.mask_table.Tie as tie
+use Rattle.chip.proofs.map.mask_table.Goals as goal
 
-returns : tie.Need-returns
+pub returns : goal.returns
 unfolding masks masks_from named_at printed
 returns c = refl
-
-pub mask-table-spec : {M : Type 1} → statement M
-mask-table-spec = tie.close (tie.spec returns)
