@@ -1,0 +1,16 @@
+use Prim.Native.Nat.{◌-◌}
+use mathlib.Core.Path.{sym, ◌∙◌}
+use native.Mathlib.Omega.{arith}
+use borrow.Author.Tests.{not-false}
+use borrow.Author.Rules.{rules}
+use Rattle.changes.specs.Places.{Unchanged}
+use Rattle.changes.proofs.Places.{eight_same, pass_more, pass_none}
+use Rattle.changes.proofs.skip_eights.Goals as goal
+
+pub loop-q-init : goal.loop-q-init
+loop-q-init c = pass_none _ _ _ (omega arith)
+
+pub loop-q-preserved : goal.loop-q-preserved
+loop-q-preserved c = let l = c.loop-q in
+    pass_more _ _ _ _ _ l.invariant (omega arith) (omega arith)
+    (λ i k n. eight_same _ _ _ _ (sym c.same_eight.ensures ∙ c.if-not-same_eight.false) k n)
