@@ -12,7 +12,7 @@ use steps::clock::{clock_passes, source_lines};
 use steps::vertical::{Vertical, vertical_part};
 
 // The reply, 6, 7, 8 or 0, with the vertical part and L.
-#[derive(Drop)]
+#[derive(Clone, Copy)]
 pub struct Scaled {
     pub reply: u8,
     pub vertical: Vertical,

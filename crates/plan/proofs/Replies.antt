@@ -1,7 +1,7 @@
 -- The reply to a plan: the four cases, and the answer and the buffer in each.
 -- Assumes nothing.
 use mathlib.Core.Path.{◌≡◌, sym, ap, ◌∙◌}
-use mathlib.Core.Bool.{Bool, true, false, cond, not, or_true}
+use mathlib.Core.Bool.{Bool, true, false, cond, not, or-true}
 use mathlib.Core.List.{List, ◌++◌}
 use mathlib.Core.Logic.{⊎_elim}
 use Prim.Native.Nat.{ℕ, ◌<◌, ◌≤◌}
@@ -26,7 +26,7 @@ module _ (from to : List ℕ) (room : ℕ) where
 
   pub reply_to : (length to ≡ 256 → ⊥) → plan_reply from to room ≡ wrong_length
   unfolding plan_reply plan_tests lowest
-  reply_to n = rw (ne_eqb (length to) 256 n, or_true (not (eqb (length from) 256)))
+  reply_to n = rw (ne_eqb (length to) 256 n, or-true (not (eqb (length from) 256)))
 
   pub reply_stuck : AreFiles from to → stuck masks caption from to ≡ true
       → plan_reply from to room ≡ not_writable

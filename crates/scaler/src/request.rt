@@ -1,15 +1,15 @@
 // Request, what is wanted; Fields, the numbers that the chip's fields are to hold; Checked, the answer.
 
 // A count of pixel clocks.
-#[derive(Drop)]
+#[derive(Clone, Copy)]
 pub struct PixelClocks(pub u16);
 
 // A count of encoder clocks, two to an output pixel.
-#[derive(Drop)]
+#[derive(Clone, Copy)]
 pub struct EncoderClocks(pub u16);
 
 // A wanted picture, with the paper's names.
-#[derive(Drop)]
+#[derive(Clone, Copy)]
 pub struct Request {
     // 0 is 60 Hz, 1 is 50 Hz.
     pub standard: u8,
@@ -30,7 +30,7 @@ pub struct Request {
 }
 
 // The fields, in the order of document 01's table.
-#[derive(Drop)]
+#[derive(Clone, Copy)]
 pub struct Fields {
     pub fise: u8,
     pub adwhs: EncoderClocks,
@@ -52,7 +52,7 @@ pub struct Fields {
 }
 
 // The reply, and the fields, all 0 beside a refusal.
-#[derive(Drop)]
+#[derive(Clone, Copy)]
 pub struct Checked {
     pub reply: u8,
     pub fields: Fields,

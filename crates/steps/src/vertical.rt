@@ -3,7 +3,7 @@ ghost use Rattle.std.specs.Prelude.{◌≡◌, cond, ◌*◌, ◌<◌, leb};
 ghost use Rattle.scaler.specs.Numbers.{num_of, den_of};
 ghost use Rattle.steps.specs.Parts.{vertical_of};
 
-#[derive(Drop)]
+#[derive(Clone, Copy)]
 pub struct Vertical {
     pub yinc: u64,
     pub yiwgto: u64,
