@@ -11,7 +11,7 @@ use Rattle.bus.proofs.state.State.read.Goals as goal
 
 pub returns-then-reply-ne-DONE : goal.returns-then-reply-ne-DONE
 unfolding bus_read
-returns-then-reply-ne-DONE c = let e = c.read_reply_lem.ensures in
+returns-then-reply-ne-DONE c = let e = c.read_reply-reply.ensures in
     rw (
       e,
       ne_eqb (read_reply c.args.transaction.now) 0
@@ -20,12 +20,12 @@ returns-then-reply-ne-DONE c = let e = c.read_reply_lem.ensures in
 
 pub bounds-transaction-1 : goal.bounds-transaction-1
 bounds-transaction-1 c = let t = c.args.transaction.now in
-    let l = read_long t (sym c.read_reply_lem.ensures ∙ c.if-reply-ne-DONE.false) in
+    let l = read_long t (sym c.read_reply-reply.ensures ∙ c.if-reply-ne-DONE.false) in
     omega arith
 
 pub returns : goal.returns
 unfolding bus_read
 returns c = let t = c.args.transaction.now in
-    let e : read_reply t ≡ 0 = sym c.read_reply_lem.ensures
+    let e : read_reply t ≡ 0 = sym c.read_reply-reply.ensures
     ∙ c.if-reply-ne-DONE.false in
     rw (c.readable_byte-byte.ensures, c.if-reply-ne-DONE.false, e)

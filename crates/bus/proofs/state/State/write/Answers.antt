@@ -1,7 +1,6 @@
 -- `bus::state::State::write` meets its contract: a refusal, or one of three writers, by the subaddress; the
 -- reply 0 says what the writers ask.
 -- Assumes nothing.
--- the reply was 0, and what that says of the transaction
 use mathlib.Core.Path.{◌≡◌, sym, ◌∙◌}
 use native.Mathlib.Omega.{arith}
 use borrow.Author.Rules.{rules}
@@ -14,6 +13,7 @@ use Rattle.bus.specs.States.{stored, bus_write}
 use Rattle.bus.proofs.state.State.write.Goals.{Else-reply-ne-DONE}
 use Rattle.bus.proofs.state.State.write.Goals as goal
 
+-- the reply was 0, and what that says of the transaction
 zero : (c : Else-reply-ne-DONE) → write_reply c.args.transaction.now ≡ 0
 zero c = sym c.write_reply-reply.ensures ∙ c.if-reply-ne-DONE.false
 
@@ -35,14 +35,14 @@ bounds-transaction-1 c = omega (arith, (said (goal.at.bounds-transaction-1 c).El
 pub slice_bounds-bytes-count : goal.slice_bounds-bytes-count
 slice_bounds-bytes-count c = omega (arith, (said (goal.at.slice_bounds-bytes-count c).Else-reply-ne-DONE).long)
 
-pub UNKNOWN-slice-bounds-bytes-start : goal.UNKNOWN-slice-bounds-bytes-start
-UNKNOWN-slice-bounds-bytes-start c = omega (arith, (said c).long)
+pub slice_bounds-bytes-start : goal.slice_bounds-bytes-start
+slice_bounds-bytes-start c = omega (arith, (said (goal.at.slice_bounds-bytes-start c).Else-reply-ne-DONE).long)
 
 pub write_cells-requires : goal.write_cells-requires
 write_cells-requires c = let t = c.args.transaction.now in (
       search rules,
       search rules,
-      rw tail_part (cursor_fits (get_or t 1 0) (drop 2 t) (said (goal.at.write_cells-requires c).Else-reply-ne-DONE).ranges c.if-subaddress.true),
+      rw tail_part (cursor_fits (get_or t 1 0) (drop 2 t) (said (goal.at.write_cells-requires c).Else-reply-ne-DONE).fits c.if-subaddress.true),
     )
 
 pub returns-then-subaddress : goal.returns-then-subaddress
@@ -59,7 +59,7 @@ pub write_cells-requires-then-subaddress-2 : goal.write_cells-requires-then-suba
 write_cells-requires-then-subaddress-2 c = let t = c.args.transaction.now in (
       search rules,
       search rules,
-      rw tail_part (colours_fit (get_or t 1 0) (drop 2 t) (said (goal.at.write_cells-requires-then-subaddress-2 c).Else-reply-ne-DONE).ranges
+      rw tail_part (colours_fit (get_or t 1 0) (drop 2 t) (said (goal.at.write_cells-requires-then-subaddress-2 c).Else-reply-ne-DONE).fits
           c.if-subaddress.false c.if-subaddress-2.true),
     )
 
@@ -77,7 +77,7 @@ returns-then-subaddress-2 c = simp (
 pub write_registers-requires : goal.write_registers-requires
 write_registers-requires c = let t = c.args.transaction.now in (
       search rules,
-      rw tail_part (registers_fit (get_or t 1 0) (drop 2 t) (said (goal.at.write_registers-requires c).Else-reply-ne-DONE).ranges
+      rw tail_part (registers_fit (get_or t 1 0) (drop 2 t) (said (goal.at.write_registers-requires c).Else-reply-ne-DONE).fits
           c.if-subaddress.false c.if-subaddress-2.false),
     )
 
