@@ -2,12 +2,8 @@
 -- Assumes nothing.
 use mathlib.Core.Path.{refl}
 use Rattle.scaler.specs.Answer.{refusal, no_fields}
-use Rattle.checks.proofs.refused.Statement.{statement}
-use Rattle.checks.proofs.refused.Tie as tie
+use Rattle.checks.proofs.refused.Goals as goal
 
-returns : tie.Need-returns
+pub returns : goal.returns
 unfolding refusal no_fields
 returns c = refl
-
-pub refused-spec : {M : Type 1} → statement M
-refused-spec = tie.close (tie.spec returns)
