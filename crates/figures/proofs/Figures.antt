@@ -29,7 +29,7 @@ unfolding lowest round_up nearest adwhs_of adwhe_of centred_line fal_of lal_of h
     numbers_pass clock_passes outside weights_pass request_tests request_reply fields_of values_of no_fields refusal
     checked put_piece with_bits put put_all picture_fields bit number write_tests write_reply written file_after
     printed named_at masks_from masks caption bus_bytes encoded changed clear bridged joined with_place runs_from
-    burst_of bursts_for bits_agree fixed_at some_from stuck plan.planTests plan.plan_reply plan.refusal
-    plan.plan_answer bus_write writes.registersPass writes.passes writes.writeTests writes.write_reply changed_at
+    burst_of bursts_for bits_agree fixed_at some_from stuck plan.plan_tests plan.plan_reply plan.refusal
+    plan.plan_answer bus_write writes.registers_pass writes.passes writes.write_tests writes.write_reply changed_at
     figures answered given
 figures_hold s a b = refl

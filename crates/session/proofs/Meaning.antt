@@ -129,7 +129,7 @@ one_of false false false false false n = inl refl
 
 picture_replies : (file : List ℕ) (q : Request) → length file ≡ 256
     → Given (picture.write_reply file q)
-unfolding picture.write_reply picture.writeTests request_reply request_tests lowest
+unfolding picture.write_reply picture.write_tests request_reply request_tests lowest
 picture_replies file q l =
     let n : request_reply q ≡ 8 → ⊥ = λ e. (answers_mean q).never (reply_is q ∙ e) in
     rw (eq-eqb (length file) 256 l) (one_of (wrong_source q) (not (output_holds q)) (numbers_pass q)

@@ -2,12 +2,8 @@
 -- Assumes nothing.
 use mathlib.Core.Path.{refl}
 use Rattle.readback.specs.Reading.{not_found, no_request}
-use Rattle.readback.proofs.not_found.Statement.{statement}
-use Rattle.readback.proofs.not_found.Tie as tie
+use Rattle.readback.proofs.not_found.Goals as goal
 
-returns : tie.Need-returns
+pub returns : goal.returns
 unfolding not_found no_request
 returns c = refl
-
-pub not-found-spec : {M : Type 1} → statement M
-not-found-spec = tie.close (tie.spec returns)

@@ -1,0 +1,38 @@
+-- `picture::values::values_of` meets its contract: the numbers of the struct, in order.
+-- Assumes nothing.
+use mathlib.Core.Path.{refl}
+use native.Mathlib.Omega.{arith}
+use borrow.Author.Rules.{rules}
+use Rattle.scaler.specs.Answer.{values_of}
+use Rattle.picture.proofs.values.values_of.Goals as goal
+
+pub overflow_cast-result-8 : goal.overflow_cast-result-8
+overflow_cast-result-8 c = omega (arith, c.struct_known-8-1.given)
+
+pub overflow_cast-result-9 : goal.overflow_cast-result-9
+overflow_cast-result-9 c = omega (arith, c.struct_known-9-1.given)
+
+pub overflow_cast-result-10 : goal.overflow_cast-result-10
+overflow_cast-result-10 c = omega (arith, c.struct_known-10-1.given)
+
+pub overflow_cast-result-11 : goal.overflow_cast-result-11
+overflow_cast-result-11 c = omega (arith, c.struct_known-11-1.given)
+
+pub overflow_cast-result-12 : goal.overflow_cast-result-12
+overflow_cast-result-12 c = omega (arith, c.struct_known-12-1.given)
+
+pub overflow_cast-result-13 : goal.overflow_cast-result-13
+overflow_cast-result-13 c = omega (arith, c.struct_known-13-1.given)
+
+pub overflow_cast-result-14 : goal.overflow_cast-result-14
+overflow_cast-result-14 c = omega (arith, c.struct_known-14-1.given)
+
+pub overflow_cast-result-15 : goal.overflow_cast-result-15
+overflow_cast-result-15 c = omega (arith, c.struct_known-15-1.given)
+
+pub overflow_cast-result-16 : goal.overflow_cast-result-16
+overflow_cast-result-16 c = omega (arith, c.struct_known-16-1.given)
+
+pub returns : goal.returns
+unfolding values_of
+returns c = refl
