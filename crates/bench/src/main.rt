@@ -3,11 +3,10 @@
 // read nothing is done, and nothing else is written.
 #![tactic(auto)]
 
-ghost use Rattle.std.specs.Prelude.{◌≡◌, ◌+◌, length, take};
-ghost use Rattle.io.specs.Counts.{IsPrefixLen};
+ghost use Rattle.std.specs.Prelude.{◌≡◌, ◌+◌, ◌≤◌, length, take};
 ghost use Rattle.session.specs.Runs.{played, bench_state, longest_session, longest_print};
 
-use libc::{STDERR_FILENO, STDIN_FILENO, STDOUT_FILENO};
+use std::io::{Read, Write, writer};
 
 // What was read: how many bytes, and whether a read failed, with 0 bytes beside it.
 #[derive(Drop)]
@@ -18,20 +17,21 @@ struct Input {
 
 // Reads into the front of a buffer until the input ends, the buffer is full or a read fails. There is room
 // for a byte more than the longest session, so that one that is too long is seen to be.
-fn read_session(buffer: &mut [u8]) -> Input
+fn read_session<R: Read>(input: &mut R, buffer: &mut [u8]) -> Input
     requires { length buffer.old ≡ longest_session + 1 }
-    ensures { IsPrefixLen result.bytes buffer.new }
+    ensures { (result.bytes ≤ length buffer.new) × (result.bytes ≡ length (take result.bytes buffer.new)) }
 {
     let mut at = 0;
     while at < buffer.len() {
-        let got = libc::read(STDIN_FILENO, &mut buffer[at..]);
-        if got < 0 {
-            return Input {
-                bytes: 0,
-                failed: true,
-            };
-        }
-        let count = io::count(got, &buffer[at..]);
+        let count = match input.read(&mut buffer[at..]) {
+            Ok(count) => count,
+            Err(_) => {
+                return Input {
+                    bytes: 0,
+                    failed: true,
+                };
+            }
+        };
         if count == 0 {
             return Input {
                 bytes: at,
@@ -49,26 +49,24 @@ fn read_session(buffer: &mut [u8]) -> Input
 // A session done on a fresh SAA7103: what it prints is the front of the buffer. The answer is its length.
 fn do_session(session: &[u8], out: &mut [u8]) -> usize
     requires { length out.old ≡ longest_print }
-    ensures { IsPrefixLen result out.new
+    ensures { (result ≤ length out.new) × (result ≡ length (take result out.new))
         × (take result out.new ≡ (played bench_state session.now).printed) }
 {
     session::run::bench(session, out)
 }
 
-fn main() {
+fn main(rt: HostRuntime) {
     let mut buffer = [0u8; 16385];
-    let input = read_session(&mut buffer);
+    let mut reader = rt.reader();
+    let input = read_session(&mut reader, &mut buffer);
     if input.failed {
-        io::write_all(STDERR_FILENO, b"bench: standard input could not be read\n");
+        let _ = eprintln!(rt; "bench: standard input could not be read");
         return;
     }
     let bytes = input.bytes;
     let mut out = [0u8; 65536];
     let printed = do_session(&buffer[..bytes], &mut out);
-    if !io::write_all(STDOUT_FILENO, &out[..printed]) {
-        io::write_all(
-            STDERR_FILENO,
-            b"bench: standard output could not be written\n",
-        );
+    if writer(&rt).write_all(&out[..printed]).is_err() {
+        let _ = eprintln!(rt; "bench: standard output could not be written");
     }
 }

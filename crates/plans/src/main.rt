@@ -54,7 +54,7 @@ fn front(bytes: &[u8], size: usize) -> &[u8] {
 }
 
 // A burst, and the reply to its bus write: the write address, the subaddress and the data.
-fn send(state: State, burst: &[u8]) -> State {
+fn send(rt: &impl Print, state: State, burst: &[u8]) -> State {
     let size = burst.len();
     if size < HEADING {
         return state;
@@ -67,20 +67,20 @@ fn send(state: State, burst: &[u8]) -> State {
     transaction[0] = WRITE_ADDRESS;
     transaction[1] = burst[0];
     let answer = state.write(front(&transaction, size));
-    word(b"  burst");
-    hex_bytes(burst);
-    number_8(b", write: ", answer.reply);
-    word(b"\n");
+    word(rt, b"  burst");
+    hex_bytes(rt, burst);
+    number_8(rt, b", write: ", answer.reply);
+    word(rt, b"\n");
     answer.state
 }
 
 // All bursts of a list, each sent to the state that the one before left.
-fn send_list(first: State, list: &[u8]) -> State {
+fn send_list(rt: &impl Print, first: State, list: &[u8]) -> State {
     let mut state = first;
     let mut at = 0;
     while at < list.len() {
         let end = burst_end(list, at);
-        state = send(state, &list[at..end]);
+        state = send(rt, state, &list[at..end]);
         at = end;
     }
     state
@@ -101,44 +101,44 @@ fn same_bytes(a: &[u8], b: &[u8]) -> bool {
 }
 
 // Whether a list, sent to a fresh state with the first file, leaves the wanted one.
-fn reaches(from: [u8; 256], to: &[u8], list: &[u8]) -> bool {
+fn reaches(rt: &impl Print, from: [u8; 256], to: &[u8], list: &[u8]) -> bool {
     let fresh = State::fresh(0x03);
     let mut state = fresh.state;
     state.file = from;
-    let after = send_list(state, list);
+    let after = send_list(rt, state, list);
     let file = after.file;
     same_bytes(&file, to)
 }
 
 // A plan's reply, and its list's bytes and bursts. The answer is the bytes.
-fn show_plan(name: &[u8], from: &[u8], to: &[u8], buffer: &mut [u8]) -> usize {
-    word(name);
+fn show_plan(rt: &impl Print, name: &[u8], from: &[u8], to: &[u8], buffer: &mut [u8]) -> usize {
+    word(rt, name);
     let planned = plan(from, to, buffer);
-    number_8(b"\n  plan: ", planned.reply);
-    number(b", bytes ", planned.bytes as u64);
-    number(b", bursts ", planned.bursts as u64);
-    word(b"\n");
+    number_8(rt, b"\n  plan: ", planned.reply);
+    number(rt, b", bytes ", planned.bytes as u64);
+    number(rt, b", bursts ", planned.bursts as u64);
+    word(rt, b"\n");
     planned.bytes
 }
 
 // A plan, and its list on the bus.
-fn show(name: &[u8], from: [u8; 256], to: [u8; 256]) {
+fn show(rt: &impl Print, name: &[u8], from: [u8; 256], to: [u8; 256]) {
     let mut buffer = [0u8; 512];
-    let bytes = show_plan(name, &from, &to, &mut buffer);
-    if reaches(from, &to, front(&buffer, bytes)) {
-        word(b"  replay: the wanted file\n");
+    let bytes = show_plan(rt, name, &from, &to, &mut buffer);
+    if reaches(rt, from, &to, front(&buffer, bytes)) {
+        word(rt, b"  replay: the wanted file\n");
         return;
     }
-    word(b"  replay: another file\n");
+    word(rt, b"  replay: another file\n");
 }
 
 // A plan that is refused, and the buffer of six bytes that it was lent.
-fn show_refusal(name: &[u8], from: &[u8], to: &[u8]) {
+fn show_refusal(rt: &impl Print, name: &[u8], from: &[u8], to: &[u8]) {
     let mut buffer = [0xFFu8; 6];
-    show_plan(name, from, to, &mut buffer);
-    word(b"  buffer");
-    hex_bytes(&buffer);
-    word(b"\n");
+    show_plan(rt, name, from, to, &mut buffer);
+    word(rt, b"  buffer");
+    hex_bytes(rt, &buffer);
+    word(rt, b"\n");
 }
 
 // A zero file with a picture written into it.
@@ -181,51 +181,57 @@ fn figure_4() -> Request {
 }
 
 // A gap of two places is bridged, and one of three is not.
-fn figure_7() {
+fn figure_7(rt: &impl Print) {
     let zeros = [0u8; 256];
     let mut near = zeros;
     near[0x70] = 1;
     near[0x71] = 1;
     near[0x74] = 1;
-    show(b"figure 7, changed 70h, 71h and 74h", zeros, near);
+    show(rt, b"figure 7, changed 70h, 71h and 74h", zeros, near);
     let mut far = zeros;
     far[0x70] = 1;
     far[0x74] = 1;
-    show(b"figure 7, changed 70h and 74h", zeros, far);
+    show(rt, b"figure 7, changed 70h and 74h", zeros, far);
 }
 
-fn pictures() {
+fn pictures(rt: &impl Print) {
     let vga = pictured(figure_1());
     let svga = pictured(figure_4());
-    show(b"figure 1 to figure 4", vga, svga);
-    show(b"figure 4 to figure 1", svga, vga);
-    show(b"figure 1 to figure 1", vga, vga);
+    show(rt, b"figure 1 to figure 4", vga, svga);
+    show(rt, b"figure 4 to figure 1", svga, vga);
+    show(rt, b"figure 1 to figure 1", vga, vga);
 }
 
 // The refusals 1, 10 and 11.
-fn refusals() {
+fn refusals(rt: &impl Print) {
     let zeros = [0u8; 256];
     let short = [0u8; 255];
-    show_refusal(b"a file of 255 bytes", &zeros, &short);
+    show_refusal(rt, b"a file of 255 bytes", &zeros, &short);
     let mut caption = zeros;
     caption[0x67] = 1;
-    show_refusal(b"changed 67h, a caption byte", &zeros, &caption);
+    show_refusal(rt, b"changed 67h, a caption byte", &zeros, &caption);
     let mut unnamed = zeros;
     unnamed[0x61] = 0x20;
-    show_refusal(b"changed bit 5 of 61h, which has no name", &zeros, &unnamed);
+    show_refusal(
+        rt,
+        b"changed bit 5 of 61h, which has no name",
+        &zeros,
+        &unnamed,
+    );
     let mut near = zeros;
     near[0x70] = 1;
     near[0x71] = 1;
     near[0x74] = 1;
     show_refusal(
+        rt,
         b"figure 7, changed 70h, 71h and 74h, a byte too few",
         &zeros,
         &near,
     );
 }
 
-fn main() {
-    figure_7();
-    pictures();
-    refusals();
+fn main(rt: HostRuntime) {
+    figure_7(&rt);
+    pictures(&rt);
+    refusals(&rt);
 }

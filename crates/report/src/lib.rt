@@ -2,39 +2,39 @@
 // told: what is missing then is seen in the comparison. No contract can speak of what is printed.
 #![tactic(auto)]
 
-use libc::STDOUT_FILENO;
+use std::io::{Write, writer};
 
-pub fn word(text: &[u8]) {
-    io::write_all(STDOUT_FILENO, text);
+pub fn word(rt: &impl Print, text: &[u8]) {
+    let _ = writer(rt).write_all(text);
 }
 
 // A name, and the number that it is the name of.
-pub fn number(name: &[u8], x: u64) {
-    word(name);
-    io::print_decimal(STDOUT_FILENO, x);
+pub fn number(rt: &impl Print, name: &[u8], x: u64) {
+    word(rt, name);
+    let _ = print!(rt; "{x}");
 }
 
-pub fn number_8(name: &[u8], x: u8) {
-    number(name, x as u64);
+pub fn number_8(rt: &impl Print, name: &[u8], x: u8) {
+    number(rt, name, x as u64);
 }
 
 // A byte as a space and two digits.
-pub fn hex_byte(x: u8) {
-    word(b" ");
-    io::print_hex(STDOUT_FILENO, x as u64, 2);
+pub fn hex_byte(rt: &impl Print, x: u8) {
+    word(rt, b" ");
+    let _ = print!(rt; "{x:02x}");
 }
 
-pub fn hex_bytes(bytes: &[u8]) {
+pub fn hex_bytes(rt: &impl Print, bytes: &[u8]) {
     let mut i = 0;
     while i < bytes.len() {
-        hex_byte(bytes[i]);
+        hex_byte(rt, bytes[i]);
         i += 1;
     }
 }
 
 // A line: a name, and the bytes that it is the name of.
-pub fn show_bytes(name: &[u8], bytes: &[u8]) {
-    word(name);
-    hex_bytes(bytes);
-    word(b"\n");
+pub fn show_bytes(rt: &impl Print, name: &[u8], bytes: &[u8]) {
+    word(rt, name);
+    hex_bytes(rt, bytes);
+    word(rt, b"\n");
 }

@@ -10,8 +10,8 @@ use lib.Signed.{lt_z, non_neg}
 use mir.Syntax.{w8, w64}
 use mir.Val.{Fits, SFits, of_z, to_z}
 use mir.Facts.{to_z-of_z}
-use Rattle.pictures.proofs.distance.Statement.{statement}
-use Rattle.pictures.proofs.distance.Tie as tie
+use Rattle.pictures.proofs.distance.Goals.{Else-wide-lt0, Then-wide-lt0}
+use Rattle.pictures.proofs.distance.Goals as goal
 
 wide : {x : ℤ} → SFits w8 x → SFits w64 x
 wide s = record { sfits = omega (arith, s.sfits) }
@@ -42,30 +42,26 @@ above (pos n) s t =
     record { in-range = wide s; positive = tt; small = record { fits = omega (arith, s.sfits) }; is = refl }
 above (negsuc n) s t = absurd (true≢false t)
 
-far-below : (c : tie.Then1) → Far c.before.args.x (pos 0 -ℤ c.before.args.x)
-far-below c = let s = c.before.ranges.x in below c.before.args.x s (rw (same s) at c.if1.true)
+far-below : (c : Then-wide-lt0) → Far c.args.x (pos 0 -ℤ c.args.x)
+far-below c = let s = c.ranges.x in below c.args.x s (rw (same s) at c.if-wide-lt0.true)
 
-far-above : (c : tie.Else1) → Far c.before.args.x c.before.args.x
-far-above c = let s = c.before.ranges.x in above c.before.args.x s (rw (same s) at c.if1.false)
+far-above : (c : Else-wide-lt0) → Far c.args.x c.args.x
+far-above c = let s = c.ranges.x in above c.args.x s (rw (same s) at c.if-wide-lt0.false)
 
-cast-wide : tie.Need-overflow-cast-wide
-cast-wide c = rw (to_z-of_z c.ranges.x) (wide c.ranges.x)
+pub overflow_cast-wide : goal.overflow_cast-wide
+overflow_cast-wide c = rw (to_z-of_z c.ranges.x) (wide c.ranges.x)
 
-sub-result : tie.Need-overflow-sub-result
-sub-result c = rw (same c.before.ranges.x) (far-below c).in-range
+pub overflow_sub-result : goal.overflow_sub-result
+overflow_sub-result c = rw (same c.ranges.x) (far-below c).in-range
 
-cast-result : tie.Need-overflow-cast-result
-cast-result c =
-    let d = far-below c in rw (same c.before.ranges.x, to_z-of_z d.in-range) (d.positive, d.small)
+pub overflow_cast-result : goal.overflow_cast-result
+overflow_cast-result c = let d = far-below c in rw (same c.ranges.x, to_z-of_z d.in-range) (d.positive, d.small)
 
-returns : tie.Need-returns
-returns c = rw (same c.before.ranges.x, to_z-of_z (far-below c).in-range) (far-below c).is
+pub returns-then-wide-lt0 : goal.returns-then-wide-lt0
+returns-then-wide-lt0 c = rw (same c.ranges.x, to_z-of_z (far-below c).in-range) (far-below c).is
 
-cast-result-2 : tie.Need-overflow-cast-result-2
-cast-result-2 c = rw (same c.before.ranges.x) ((far-above c).positive, (far-above c).small)
+pub overflow_cast-result-2 : goal.overflow_cast-result-2
+overflow_cast-result-2 c = rw (same c.ranges.x) ((far-above c).positive, (far-above c).small)
 
-returns-2 : tie.Need-returns-2
-returns-2 c = rw (same c.before.ranges.x) (far-above c).is
-
-pub distance-spec : {M : Type 1} → statement M
-distance-spec = tie.close (tie.spec cast-wide sub-result cast-result returns cast-result-2 returns-2)
+pub returns : goal.returns
+returns c = rw (same c.ranges.x) (far-above c).is
