@@ -11,7 +11,7 @@ use Rattle.bits.proofs.Stores.{sets_append}
 use Rattle.reply.specs.Reply.{wrong_length}
 use Rattle.bus.specs.declared.state.State.{State}
 use Rattle.lines.specs.Lines.{line}
-use Rattle.records.specs.Records.{body_length, whole}
+use Rattle.records.specs.Records.{body_length}
 use Rattle.records.proofs.Steps.{RecordTells, BrokenTells, whole_known}
 use Rattle.effects.specs.Effects.{outcome}
 use Rattle.effects.specs.Parts.{Lent, Body}

@@ -8,7 +8,6 @@ use native.Mathlib.Omega.{arith}
 use borrow.Author.Tests.{eqb-true, eq-eqb, ne_eqb}
 use lib.Dec.{eqb}
 use lib.ListN.{length, get_or}
-use Rattle.picture.specs.Writing as writing
 use Rattle.readback.proofs.Meaning.{pictures_mean}
 use Rattle.requests.specs.Requests.{request_of}
 use Rattle.requests.proofs.Cross.{requests_cross}

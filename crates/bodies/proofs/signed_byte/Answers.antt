@@ -1,7 +1,6 @@
 -- `bodies::signed_byte` meets its contract: a byte from 128 on is 256 less.
 -- Assumes nothing.
 use native.Mathlib.Omega.{arith}
-use borrow.Author.Rules.{rules}
 use borrow.Author.Tests.{lt-ltb, le-ltb}
 use mir.Facts.{to_z-of_z}
 use Rattle.requests.specs.Requests.{signed}

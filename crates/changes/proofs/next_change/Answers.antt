@@ -1,9 +1,6 @@
 -- `changes::next_change` meets its contract: the places that were passed are unchanged.
 -- Assumes nothing.
-use Prim.Native.Nat.{◌-◌}
 use native.Mathlib.Omega.{arith}
-use borrow.Author.Rules.{rules}
-use Rattle.changes.specs.Places.{Unchanged}
 use Rattle.changes.proofs.Places.{pass_none, pass_one, changed_at_lem}
 use Rattle.changes.proofs.next_change.Goals as goal
 

@@ -1,6 +1,5 @@
 -- `changes::same_eight` meets its contract: four places and four.
 -- Assumes nothing.
-use borrow.Author.Rules.{rules}
 use Rattle.changes.proofs.same_eight.Goals as goal
 
 pub returns : goal.returns

@@ -1,9 +1,5 @@
-use Prim.Native.Nat.{◌-◌}
 use mathlib.Core.Path.{sym, ◌∙◌}
 use native.Mathlib.Omega.{arith}
-use borrow.Author.Tests.{not-false}
-use borrow.Author.Rules.{rules}
-use Rattle.changes.specs.Places.{Unchanged}
 use Rattle.changes.proofs.Places.{eight_same, pass_more, pass_none}
 use Rattle.changes.proofs.skip_eights.Goals as goal
 

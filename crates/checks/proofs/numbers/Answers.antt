@@ -94,10 +94,10 @@ overflow_mul-result c = omega (
 
 pub overflow_add-result : goal.overflow_add-result
 overflow_add-result c = omega (
-      arith,
-      pixels c.args.q c.requires.0,
-      clock_le c.args.q c.requires.0 c.first_clock-adwhs.result c.first_clock-adwhs.ensures,
-    )
+  arith,
+  pixels c.args.q c.requires.0,
+  clock_le c.args.q c.requires.0 c.first_clock-adwhs.result c.first_clock-adwhs.ensures,
+)
 
 pub overflow_add-result-2 : goal.overflow_add-result-2
 overflow_add-result-2 c = let told = c.struct_told-1.given.1.1.1.1.1.1.0 in

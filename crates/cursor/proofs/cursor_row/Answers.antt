@@ -5,7 +5,6 @@ use mathlib.Core.Path.{refl}
 use Prim.Native.Nat.{◌*◌}
 use native.Mathlib.Nat.{add-sub_cancel_left}
 use native.Mathlib.Omega.{arith}
-use borrow.Author.Rules.{rules}
 use borrow.Author.Tests.{eq-eqb, ne_eqb, lt-leb, le-leb}
 use Rattle.cursor.specs.Cursor.{row_start, row_count}
 use Rattle.cursor.proofs.cursor_row.Goals as goal
@@ -23,9 +22,9 @@ returns-then-row-ge-ROWS c = rw (eq-eqb _ _ c.if-map-ne-MAP.false, lt-leb _ _ c.
 pub returns : goal.returns
 unfolding row_start row_count
 returns c = rw (
-      eq-eqb _ _ c.if-map-ne-MAP.false,
-      le-leb c.args.row 31 (omega arith),
-    )
+  eq-eqb _ _ c.if-map-ne-MAP.false,
+  le-leb c.args.row 31 (omega arith),
+)
     (record {
       block = refl;
       offset = omega arith;

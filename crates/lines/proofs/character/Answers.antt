@@ -2,7 +2,6 @@
 -- Assumes nothing.
 use mathlib.Core.Path.{ap, ◌∙◌}
 use native.Mathlib.Nat.{zero-add}
-use borrow.Author.Rules.{rules}
 use Rattle.lines.specs.Lines.{glyph}
 use Rattle.lines.proofs.Digits.{glyph_at}
 use Rattle.lines.proofs.character.Goals as goal

@@ -1,7 +1,6 @@
 -- `pieces::get_piece` meets its contract: the byte moved down, and so many ones of it.
 -- Assumes nothing.
 use Prim.Native.Nat.{◌/◌, ◌^◌}
-use borrow.Author.Rules.{rules}
 use lib.Bits.{and_mask}
 use Rattle.pieces.proofs.Shifts.{bits_at_lem}
 use Rattle.pieces.proofs.get_piece.Goals as goal

@@ -1,6 +1,5 @@
 -- `pieces::ones` meets its contract: a one shifted by at most 8 keeps all its bits.
 -- Assumes nothing.
-use borrow.Author.Rules.{rules}
 use lib.Pow.{pow_pos}
 use Rattle.pieces.proofs.Shifts.{shifted_one}
 use Rattle.pieces.proofs.ones.Goals as goal

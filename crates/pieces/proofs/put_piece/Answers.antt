@@ -1,6 +1,5 @@
 -- `pieces::put_piece` meets its contract: a merge under the ones of the piece.
 -- Assumes nothing.
-use borrow.Author.Rules.{rules}
 use Rattle.pieces.proofs.Shifts.{merge_piece}
 use Rattle.pieces.proofs.put_piece.Goals as goal
 

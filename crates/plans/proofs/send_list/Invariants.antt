@@ -2,7 +2,6 @@
 -- measure is what is left of the list.
 -- Assumes nothing.
 use Prim.Native.Nat.{◌-◌, ◌≤◌}
-use borrow.Author.Rules.{rules}
 use lib.ListN.{length}
 use Rattle.plans.proofs.send_list.Given as goal
 

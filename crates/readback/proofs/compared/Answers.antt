@@ -1,8 +1,6 @@
 -- `readback::compared` meets its contract: the check's steps for that request, and the comparison.
 -- Assumes nothing.
 use mathlib.Core.Path.{◌≡◌, sym, ap, ◌∙◌}
-use borrow.Author.Rules.{rules}
-use Rattle.scaler.specs.Answer.{fields_of}
 use Rattle.scaler.specs.Limits.{request_reply}
 use Rattle.limits.specs.Replies.{limits_reply}
 use Rattle.scaler.specs.declared.request.Request.{Request}

@@ -1,7 +1,6 @@
 -- `readback::offset_in` meets its contract: each signed value fits 64 bits.
 -- Assumes nothing.
 use native.Mathlib.Omega.{arith}
-use borrow.Author.Rules.{rules}
 use Rattle.pieces.specs.Piece.{width}
 use Rattle.fields.proofs.Fitting.{fit_at}
 use Rattle.chip.specs.Fields.{picture_fields}
@@ -26,8 +25,8 @@ overflow_sub-result c = (known c).fits
 
 pub returns : goal.returns
 returns c = rw (
-      (known c).is,
-      c.centred_line-line.ensures,
-      c.outlin_in.ensures,
-      c.standard_in.ensures,
-    )
+  (known c).is,
+  c.centred_line-line.ensures,
+  c.outlin_in.ensures,
+  c.standard_in.ensures,
+)

@@ -1,7 +1,6 @@
 -- `readback::outlin_in` meets its contract: LAL has nine bits.
 -- Assumes nothing.
 use native.Mathlib.Omega.{arith}
-use borrow.Author.Rules.{rules}
 use Rattle.pieces.specs.Piece.{width}
 use Rattle.fields.proofs.Fitting.{fit_at}
 use Rattle.chip.specs.Fields.{picture_fields}

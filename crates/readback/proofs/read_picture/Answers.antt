@@ -5,12 +5,11 @@ use mathlib.Core.Path.{◌≡◌, sym, ap, ◌∙◌}
 use mathlib.Core.List.{List}
 use Prim.Native.Nat.{ℕ}
 use native.Mathlib.Omega.{arith}
-use borrow.Author.Rules.{rules}
 use lib.Dec.{T}
 use lib.IntN.{ℤ, pos, ◌-ℤ◌}
 use mir.Facts.{to_z-of_z}
-use mir.Syntax.{w8, w64}
-use mir.Val.{SFits, of_z, to_z}
+use mir.Syntax.{w64}
+use mir.Val.{of_z, to_z}
 use Rattle.fields.specs.Fields.{fit_all, get_all}
 use Rattle.fields.proofs.Fitting.{all_fit}
 use Rattle.chip.specs.Fields.{picture_fields}

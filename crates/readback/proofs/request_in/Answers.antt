@@ -1,7 +1,6 @@
 -- `readback::request_in` meets its contract: the width of each field bounds its number.
 -- Assumes nothing.
 use native.Mathlib.Omega.{arith}
-use borrow.Author.Rules.{rules}
 use mir.Facts.{to_z-of_z}
 use Rattle.pieces.specs.Piece.{width}
 use Rattle.fields.proofs.Fitting.{fit_at}
@@ -58,10 +57,10 @@ overflow_cast-result-7 c = omega (
 pub returns : goal.returns
 unfolding request_in
 returns c = rw (
-      c.outlin_in.ensures,
-      c.less.ensures,
-      c.middle_clock.ensures,
-      c.standard_in-standard.ensures,
-      to_z-of_z c.ranges.offset,
-      c.requires.1,
-    )
+  c.outlin_in.ensures,
+  c.less.ensures,
+  c.middle_clock.ensures,
+  c.standard_in-standard.ensures,
+  to_z-of_z c.ranges.offset,
+  c.requires.1,
+)

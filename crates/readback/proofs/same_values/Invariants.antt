@@ -1,14 +1,10 @@
 -- `readback::same_values` meets its contract: what is left is the same as the whole, as long as
 -- nothing differed. The measure is what is left.
 -- Assumes nothing.
-use mathlib.Core.Path.{◌≡◌, refl, sym, ◌∙◌}
+use mathlib.Core.Path.{◌≡◌}
 use Prim.Native.Nat.{◌-◌, ◌≤◌}
-use native.Mathlib.Omega.{arith}
-use borrow.Author.Rules.{rules}
-use borrow.Author.Tests.{eq-eqb, ne_eqb}
 use lib.ListN.{length, drop}
 use Rattle.readback.specs.Reading.{same}
-use Rattle.readback.proofs.Same.{same_next, same_last}
 use Rattle.readback.proofs.same_values.Given as goal
 
 abbrev pub invariant-loop-i : goal.invariant-loop-i

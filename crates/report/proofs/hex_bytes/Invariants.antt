@@ -1,7 +1,6 @@
 -- `report::hex_bytes` meets its contract: the index stays in the bytes. The measure is what is left of them.
 -- Assumes nothing.
 use Prim.Native.Nat.{◌-◌, ◌≤◌}
-use borrow.Author.Rules.{rules}
 use lib.ListN.{length}
 use Rattle.report.proofs.hex_bytes.Given as goal
 

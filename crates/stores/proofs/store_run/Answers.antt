@@ -2,11 +2,10 @@
 -- is left of the bytes.
 -- Assumes nothing.
 -- what a place takes: the byte itself
-use mathlib.Core.Path.{◌≡◌, refl, ◌∙◌}
-use Prim.Native.Nat.{ℕ, ◌+◌, ◌-◌, ◌≤◌}
+use mathlib.Core.Path.{refl, ◌∙◌}
+use Prim.Native.Nat.{ℕ}
 use native.Mathlib.Nat.{add-zero}
 use borrow.Author.Rules.{rules}
-use lib.ListN.{length, drop}
 use lib.Seq.{sets}
 use Rattle.bits.proofs.Runs.{turn_next, turn_last}
 use Rattle.stores.proofs.store_run.Goals as goal

@@ -1,7 +1,6 @@
 -- `table::get_values` meets its contract: each field's bits stand where the table has them.
 -- Assumes nothing.
 use mathlib.Core.List.{[], ◌∷◌}
-use borrow.Author.Rules.{rules}
 use Rattle.fields.specs.Fields.{get_all}
 use Rattle.chip.specs.Fields.{picture_fields}
 use Rattle.table.proofs.get_values.Goals as goal

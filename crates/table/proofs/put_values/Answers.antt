@@ -1,7 +1,6 @@
 -- `table::put_values` meets its contract: the three parts of the table are the whole.
 -- Assumes nothing.
 use mathlib.Core.Path.{ap, ◌∙◌}
-use borrow.Author.Rules.{rules}
 use lib.ListN.{take, drop}
 use Rattle.fields.specs.Fields.{put_all}
 use Rattle.fields.proofs.Parts.{put_parts}

@@ -1,13 +1,10 @@
 -- `words::put_words` meets its contract: what is left of the numbers gives the whole.
 -- Assumes nothing.
-use mathlib.Core.Path.{◌≡◌, refl, ◌∙◌}
+use mathlib.Core.Path.{◌≡◌}
 use Prim.Native.Nat.{◌*◌, ◌-◌, ◌≤◌}
-use native.Mathlib.Omega.{arith}
-use borrow.Author.Rules.{rules}
 use lib.ListN.{length, drop}
-use lib.Seq.{sets, drop-length}
+use lib.Seq.{sets}
 use Rattle.words.specs.Words.{words_of}
-use Rattle.words.proofs.Turns.{next_word, last_word}
 use Rattle.words.proofs.put_words.Given as goal
 
 abbrev pub invariant-loop-i : goal.invariant-loop-i

@@ -4,7 +4,6 @@
 use mathlib.Core.Path.{◌≡◌, sym}
 use Prim.Native.Nat.{◌+◌, ◌-◌, ◌*◌, ◌≤◌}
 use native.Mathlib.Omega.{arith}
-use borrow.Author.Rules.{rules}
 use lib.ListN.{length, get_or, length-drop}
 use Rattle.transactions.proofs.Accepted.{cells_fit}
 use Rattle.transactions.proofs.Starts.{no_start, some_start, tail_part}

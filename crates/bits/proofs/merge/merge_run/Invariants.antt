@@ -1,13 +1,10 @@
 -- `bits::merge::merge_run` meets its contract: what is left of the run gives the whole, under the masks. The
 -- measure is what is left of the bytes.
 -- Assumes nothing.
-use mathlib.Core.Path.{◌≡◌, ◌∙◌}
+use mathlib.Core.Path.{◌≡◌}
 use Prim.Native.Nat.{◌+◌, ◌-◌, ◌≤◌}
-use native.Mathlib.Nat.{add-zero}
-use borrow.Author.Rules.{rules}
 use lib.ListN.{length, drop}
 use Rattle.bits.specs.Run.{merge_run}
-use Rattle.bits.proofs.Runs.{turn_next, turn_last, masked, run_none, run_more}
 use Rattle.bits.proofs.merge.merge_run.Given as goal
 
 abbrev pub invariant-loop-i : goal.invariant-loop-i

@@ -1,9 +1,7 @@
 -- `bodies::put::request_bytes` meets its contract: each number's two bytes, in the paper's order.
 -- Assumes nothing.
 use native.Mathlib.Omega.{arith}
-use borrow.Author.Rules.{rules}
 use mir.Facts.{to_z-of_z}
-use mir.Syntax.{w8}
 use Rattle.requests.specs.Requests.{half_bytes, request_bytes}
 use Rattle.bodies.proofs.put.request_bytes.Goals as goal
 

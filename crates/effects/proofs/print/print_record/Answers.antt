@@ -1,7 +1,6 @@
 -- `effects::print::print_record` meets its contract: 05 has a byte to show, the other kinds have none.
 -- Assumes nothing.
 use native.Mathlib.Omega.{arith}
-use borrow.Author.Rules.{rules}
 use Rattle.records.specs.Records.{body_length}
 use Rattle.effects.proofs.Effects.{body_long, shown_byte, shown_none}
 use Rattle.effects.proofs.print.print_record.Goals as goal

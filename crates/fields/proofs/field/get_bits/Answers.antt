@@ -1,7 +1,6 @@
 -- `fields::field::get_bits` meets its contract: a field of one piece.
 -- Assumes nothing.
 use native.Mathlib.Omega.{arith}
-use borrow.Author.Rules.{rules}
 use Rattle.pieces.specs.Piece.{get, get_piece}
 use Rattle.fields.proofs.field.get_bits.Goals as goal
 

@@ -1,6 +1,5 @@
 -- `fields::field::put_bits` meets its contract: a field of one piece.
 -- Assumes nothing.
-use borrow.Author.Rules.{rules}
 use Rattle.pieces.specs.Piece.{put, put_piece}
 use Rattle.fields.proofs.field.put_bits.Goals as goal
 

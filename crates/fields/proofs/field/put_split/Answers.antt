@@ -1,6 +1,5 @@
 -- `fields::field::put_split` meets its contract: the low byte, then what is left of the number above it.
 -- Assumes nothing.
-use borrow.Author.Rules.{rules}
 use Rattle.pieces.specs.Piece.{put}
 use Rattle.fields.proofs.field.put_split.Goals as goal
 

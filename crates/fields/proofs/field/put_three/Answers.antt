@@ -1,6 +1,5 @@
 -- `fields::field::put_three` meets its contract: the low byte, then what is left of the number above it.
 -- Assumes nothing.
-use borrow.Author.Rules.{rules}
 use Rattle.pieces.specs.Piece.{put}
 use Rattle.fields.proofs.field.put_three.Goals as goal
 

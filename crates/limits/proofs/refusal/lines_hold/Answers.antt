@@ -1,6 +1,5 @@
 -- `limits::refusal::lines_hold` meets its contract: the tests are the definition's own.
 -- Assumes nothing.
-use borrow.Author.Rules.{rules}
 use Rattle.scaler.specs.Limits.{lines_hold}
 use Rattle.limits.proofs.refusal.lines_hold.Goals as goal
 

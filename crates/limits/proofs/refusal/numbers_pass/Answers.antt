@@ -1,7 +1,6 @@
 -- `limits::refusal::numbers_pass` meets its contract: the tests are the definition's own, on what the
 -- division gave.
 -- Assumes nothing.
-use borrow.Author.Rules.{rules}
 use Rattle.scaler.specs.Limits.{numbers_pass}
 use Rattle.scaler.specs.Numbers.{yofse_of}
 use Rattle.steps.specs.Parts.{vertical_of}

@@ -1,7 +1,6 @@
 -- `limits::refusal::output_holds` meets its contract: the three tests are put together; the offset reads
 -- back from its bits as itself.
 -- Assumes nothing.
-use borrow.Author.Rules.{rules}
 use mir.Facts.{to_z-of_z}
 use Rattle.scaler.specs.Limits.{output_holds}
 use Rattle.limits.proofs.refusal.output_holds.Goals as goal

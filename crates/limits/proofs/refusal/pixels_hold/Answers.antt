@@ -1,6 +1,5 @@
 -- `limits::refusal::pixels_hold` meets its contract: the tests are the definition's own.
 -- Assumes nothing.
-use borrow.Author.Rules.{rules}
 use Rattle.scaler.specs.Limits.{pixels_hold}
 use Rattle.limits.proofs.refusal.pixels_hold.Goals as goal
 

@@ -1,7 +1,6 @@
 -- `limits::refusal::weights_pass` meets its contract: a weight is below 0, or it is half of what is left.
 -- Assumes nothing.
 use mathlib.Core.Path.{sym}
-use borrow.Author.Rules.{rules}
 use Rattle.scaler.specs.Limits.{num_for, den_for}
 use Rattle.steps.specs.Parts.{vertical_of}
 use Rattle.scaler.proofs.Steps.{den_pos, weights_below, weights_above}

@@ -2,7 +2,6 @@
 -- Assumes nothing.
 use mathlib.Core.Path.{refl}
 use native.Mathlib.Omega.{arith}
-use borrow.Author.Rules.{rules}
 use Rattle.scaler.specs.Limits.{wrong_source}
 use Rattle.limits.proofs.refusal.wrong_source.Goals as goal
 

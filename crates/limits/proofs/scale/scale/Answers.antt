@@ -1,7 +1,6 @@
 -- `limits::scale::scale` meets its contract: each part is what its leaf says.
 -- Assumes nothing.
 use native.Mathlib.Omega.{arith}
-use borrow.Author.Rules.{rules}
 use Rattle.limits.specs.Replies.{scaled_for}
 use Rattle.scaler.proofs.Kept.{output_facts}
 use Rattle.limits.proofs.Replies.{limits_output}

@@ -2,7 +2,6 @@
 -- Assumes nothing.
 use mathlib.Core.Path.{◌≡◌, sym, ◌∙◌}
 use mathlib.Core.Bool.{false}
-use borrow.Author.Rules.{rules}
 use Rattle.reply.specs.Reply.{lowest}
 use Rattle.scaler.specs.Limits.{lines_for, numbers_pass, clock_passes, request_tests}
 use Rattle.limits.specs.Replies.{scale_reply}
@@ -19,7 +18,7 @@ returns-then-clock_passes c =
     let left1 : numbers_pass q ≡ false = sym c.numbers_pass.ensures ∙ c.if-numbers_pass.false in
     -- with L as the code has it
     let clock_is : c.clock_passes.result ≡ clock_passes q.standard q.inppl (lines_for q) =
-        rw c.requires.1 at c.clock_passes.ensures in
+    rw c.requires.1 at c.clock_passes.ensures in
     rw (left1, sym clock_is ∙ c.if-clock_passes.true)
 
 pub returns-then-weights_pass : goal.returns-then-weights_pass
@@ -29,7 +28,7 @@ returns-then-weights_pass c =
     let left1 : numbers_pass q ≡ false = sym c.numbers_pass.ensures ∙ c.if-numbers_pass.false in
     -- with L as the code has it
     let clock_is : c.clock_passes.result ≡ clock_passes q.standard q.inppl (lines_for q) =
-        rw c.requires.1 at c.clock_passes.ensures in
+    rw c.requires.1 at c.clock_passes.ensures in
     let left2 : clock_passes q.standard q.inppl (lines_for q) ≡ false = sym clock_is ∙ c.if-clock_passes.false in
     rw (left1, left2, sym c.weights_pass.ensures ∙ c.if-weights_pass.true)
 
@@ -40,6 +39,6 @@ returns c =
     let left1 : numbers_pass q ≡ false = sym c.numbers_pass.ensures ∙ c.if-numbers_pass.false in
     -- with L as the code has it
     let clock_is : c.clock_passes.result ≡ clock_passes q.standard q.inppl (lines_for q) =
-        rw c.requires.1 at c.clock_passes.ensures in
+    rw c.requires.1 at c.clock_passes.ensures in
     let left2 : clock_passes q.standard q.inppl (lines_for q) ≡ false = sym clock_is ∙ c.if-clock_passes.false in
     rw (left1, left2, sym c.weights_pass.ensures ∙ c.if-weights_pass.false)

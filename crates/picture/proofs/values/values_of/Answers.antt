@@ -2,7 +2,6 @@
 -- Assumes nothing.
 use mathlib.Core.Path.{refl}
 use native.Mathlib.Omega.{arith}
-use borrow.Author.Rules.{rules}
 use Rattle.scaler.specs.Answer.{values_of}
 use Rattle.picture.proofs.values.values_of.Goals as goal
 

@@ -3,7 +3,6 @@
 -- Assumes nothing.
 use mathlib.Core.Path.{◌≡◌, sym, ◌∙◌}
 use native.Mathlib.Omega.{arith}
-use borrow.Author.Rules.{rules}
 use Rattle.scaler.specs.Limits.{request_reply}
 use Rattle.limits.specs.Replies.{limits_reply}
 use Rattle.scaler.specs.declared.request.Request.{Request}

@@ -1,10 +1,9 @@
 -- `plan::plan::plan` meets its contract: a refusal leaves the buffer; else the list is stored.
 -- Assumes nothing.
 use mathlib.Core.Path.{sym, ◌∙◌}
-use Prim.Native.Nat.{ℕ, ◌<◌, ◌≤◌}
+use Prim.Native.Nat.{◌≤◌}
 use native.Mathlib.Omega.{arith}
-use borrow.Author.Rules.{rules}
-use lib.ListN.{length, get_or}
+use lib.ListN.{length}
 use Rattle.bursts.specs.Burst.{bus_bytes}
 use Rattle.reply.specs.Reply.{wrong_length, not_writable, too_long}
 use Rattle.plan.specs.Meaning.{AreFiles}

@@ -3,9 +3,8 @@
 use mathlib.Core.Path.{◌≡◌}
 use Prim.Native.Nat.{◌+◌, ◌-◌, ◌*◌, ◌≤◌}
 use native.Mathlib.Omega.{arith}
-use borrow.Author.Rules.{rules}
-use lib.ListN.{length, get_or, take, length-set, length-take, length-drop}
-use Rattle.plan.proofs.Spelling.{Writing, write_first, write_all, fits_file, fits_out, write_more}
+use lib.ListN.{length, get_or, length-set, length-take, length-drop}
+use Rattle.plan.proofs.Spelling.{write_first, write_all, fits_file, fits_out, write_more}
 use Rattle.plan.proofs.write.write_list.Goals.{In-loop-k}
 use Rattle.plan.proofs.write.write_list.Goals as goal
 

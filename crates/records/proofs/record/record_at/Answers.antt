@@ -3,7 +3,6 @@
 use mathlib.Core.Path.{sym, ap, ◌∙◌}
 use Prim.Native.Nat.{◌+◌}
 use native.Mathlib.Omega.{arith}
-use borrow.Author.Rules.{rules}
 use lib.ListN.{get_or, length-drop}
 use Rattle.records.specs.declared.record.Step.TheVariants.{Record}
 use Rattle.records.proofs.Steps.{known_whole, unknown_not_whole, short_not_whole}

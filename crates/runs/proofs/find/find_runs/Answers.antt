@@ -2,11 +2,9 @@
 -- Assumes nothing.
 use mathlib.Core.Path.{refl, sym, ◌∙◌}
 use mathlib.Core.Bool.{true≢false}
-use Prim.Native.Nat.{◌-◌}
 use native.Mathlib.Omega.{arith}
-use borrow.Author.Rules.{rules}
 use lib.ListN.{length-set}
-use Rattle.runs.proofs.Finding.{Progress, run_ends, found_first, unchanged_free, found_more, found_all}
+use Rattle.runs.proofs.Finding.{run_ends, found_first, unchanged_free, found_more, found_all}
 use Rattle.runs.proofs.find.find_runs.Goals as goal
 
 pub returns-then-start-ge-FILE_LENGTH : goal.returns-then-start-ge-FILE_LENGTH
@@ -17,13 +15,13 @@ returns-then-start-ge-FILE_LENGTH c = let b = c.next_change-start.ensures in
 
 pub returns-then-any_fixed : goal.returns-then-any_fixed
 returns-then-any_fixed c = record {
-      stuck = sym c.if-any_fixed.true ∙ c.any_fixed.ensures;
-      none = λ e. (refl, refl);
-      bytes = λ e. absurd (true≢false e);
-      bursts = λ e. absurd (true≢false e);
-      few = λ e. absurd (true≢false e);
-      listed = λ e. absurd (true≢false e);
-    }
+  stuck = sym c.if-any_fixed.true ∙ c.any_fixed.ensures;
+  none = λ e. (refl, refl);
+  bytes = λ e. absurd (true≢false e);
+  bursts = λ e. absurd (true≢false e);
+  few = λ e. absurd (true≢false e);
+  listed = λ e. absurd (true≢false e);
+}
 
 pub loop-start-init : goal.loop-start-init
 loop-start-init c = found_first _ _ _ _
@@ -59,10 +57,10 @@ overflow_add-bytes c = omega (arith, c.run_from-run.ensures.low)
 
 pub overflow_add-bytes-in-loop-start : goal.overflow_add-bytes-in-loop-start
 overflow_add-bytes-in-loop-start c = omega (
-      arith,
-      c.run_from-run.ensures.low,
-      c.loop-start.invariant.small,
-    )
+  arith,
+  c.run_from-run.ensures.low,
+  c.loop-start.invariant.small,
+)
 
 pub loop-start-smaller : goal.loop-start-smaller
 loop-start-smaller c = let f = c.run_from-run.ensures in

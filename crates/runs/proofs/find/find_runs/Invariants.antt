@@ -1,12 +1,7 @@
 -- `runs::find::find_runs` meets its contract: the headings of the runs so far stand in front.
 -- Assumes nothing.
-use mathlib.Core.Path.{refl, sym, ◌∙◌}
-use mathlib.Core.Bool.{true≢false}
 use Prim.Native.Nat.{◌-◌}
-use native.Mathlib.Omega.{arith}
-use borrow.Author.Rules.{rules}
-use lib.ListN.{length-set}
-use Rattle.runs.proofs.Finding.{Progress, run_ends, found_first, unchanged_free, found_more, found_all}
+use Rattle.runs.proofs.Finding.{Progress}
 use Rattle.runs.proofs.find.find_runs.Given as goal
 
 abbrev pub invariant-loop-start : goal.invariant-loop-start

@@ -2,7 +2,6 @@
 -- Assumes nothing.
 use mathlib.Core.Path.{sym}
 use native.Mathlib.Omega.{arith}
-use borrow.Author.Rules.{rules}
 use Rattle.bursts.proofs.Bridges.{bridged_here}
 use Rattle.chip.specs.File.{caption}
 use Rattle.runs.proofs.Gaps.{wide_gap, narrow_gap}

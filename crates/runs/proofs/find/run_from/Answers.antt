@@ -1,12 +1,10 @@
 -- `runs::find::run_from` meets its contract: the run is open at every turn.
 -- Assumes nothing.
-use Prim.Native.Nat.{ℕ, ◌-◌, ◌<◌}
+use Prim.Native.Nat.{ℕ, ◌<◌}
 use mathlib.Core.Path.{sym, ◌∙◌}
 use native.Mathlib.Omega.{arith}
-use borrow.Author.Tests.{not-true, not-false}
-use borrow.Author.Rules.{rules}
 use lib.ListN.{get_or}
-use Rattle.runs.proofs.Opening.{Open, open_first, open_more, closed}
+use Rattle.runs.proofs.Opening.{open_first, open_more, closed}
 use Rattle.runs.proofs.find.run_from.Goals.{After-shared_slice_known-2-1}
 use Rattle.runs.proofs.find.run_from.Goals as goal
 

@@ -1,13 +1,9 @@
 -- `runs::fixed::any_fixed` meets its contract: the places passed so far, and those that are left.
 -- Assumes nothing.
-use mathlib.Core.Path.{◌≡◌, refl, sym, ◌∙◌}
-use mathlib.Core.Bool.{◌||◌, or-false}
-use Prim.Native.Nat.{◌-◌}
+use mathlib.Core.Path.{refl, sym, ◌∙◌}
+use mathlib.Core.Bool.{or-false}
 use native.Mathlib.Numerals.{add-one}
 use native.Mathlib.Omega.{arith}
-use borrow.Author.Tests.{not-true, not-false}
-use borrow.Author.Rules.{rules}
-use Rattle.runs.specs.Found.{stuck_at}
 use Rattle.runs.proofs.Opening.{none_stuck}
 use Rattle.runs.proofs.Stuck.{captions_stuck, stuck_more}
 use Rattle.runs.proofs.fixed.any_fixed.Goals as goal

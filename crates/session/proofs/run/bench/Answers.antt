@@ -1,7 +1,6 @@
 -- `session::run::bench` meets its contract: a run on a fresh SAA7103.
 -- Assumes nothing.
 use mathlib.Core.Path.{ap, ◌∙◌}
-use borrow.Author.Rules.{rules}
 use Rattle.session.proofs.run.bench.Goals as goal
 
 pub returns : goal.returns

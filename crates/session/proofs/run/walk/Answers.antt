@@ -1,13 +1,10 @@
 -- `session::run::walk` meets its contract: what is left of the session gives the whole.
 -- Assumes nothing.
 use mathlib.Core.Path.{sym, ap₂, ◌∙◌}
-use Prim.Native.Nat.{◌-◌}
 use native.Mathlib.Omega.{arith}
 use borrow.Author.Rules.{rules}
-use lib.ListN.{length}
 use Rattle.records.proofs.Steps.{record_tells, broken_tells, end_tells}
-use Rattle.effects.specs.Parts.{in_parts, Lent}
-use Rattle.session.proofs.Playing.{Playing, play_first, body_there, text_fits, play_more, word_fits}
+use Rattle.session.proofs.Playing.{play_first, body_there, text_fits, play_more, word_fits}
 use Rattle.session.proofs.Playing.{play_last, all_state, all_printed, all_count}
 use Rattle.session.proofs.run.walk.Goals as goal
 
@@ -45,12 +42,12 @@ slice_bounds-print_record-end c = sym (c.do_record-reply.auto.file ∙ c.loop-at
 
 pub print_record-bytes-requires : goal.print_record-bytes-requires
 print_record-bytes-requires c = let e = c.do_record-reply.ensures in (
-      text_fits _ _ _ _ _ _ _ c.loop-at.invariant _ _ _ (record_tells _ _ _ _ _ (sym c.in-Record.ensures)) _ _ (e.outcome_is _ _ _)
-          c.requires.0 c.requires.1,
-      e.digit,
-      c.do_record-reply.auto.file ∙ c.loop-at.invariant.lent.file_long,
-      body_there _ _ _ _ _ (record_tells _ _ _ _ _ (sym c.in-Record.ensures)),
-    )
+  text_fits _ _ _ _ _ _ _ c.loop-at.invariant _ _ _ (record_tells _ _ _ _ _ (sym c.in-Record.ensures)) _ _ (e.outcome_is _ _ _)
+      c.requires.0 c.requires.1,
+  e.digit,
+  c.do_record-reply.auto.file ∙ c.loop-at.invariant.lent.file_long,
+  body_there _ _ _ _ _ (record_tells _ _ _ _ _ (sym c.in-Record.ensures)),
+)
 
 pub loop-at-smaller-in-Record : goal.loop-at-smaller-in-Record
 loop-at-smaller-in-Record c = let t = record_tells _ _ _ _ _ (sym c.in-Record.ensures) in
@@ -71,9 +68,9 @@ loop-at-preserved-in-Record c = let e = c.print_record-bytes.ensures in
 
 pub put_line-bytes-requires : goal.put_line-bytes-requires
 put_line-bytes-requires c = (
-      word_fits _ _ _ _ _ _ _ c.loop-at.invariant _ (broken_tells _ _ _ (sym c.in-Broken.ensures)) c.requires.0 c.requires.1,
-      omega arith,
-    )
+  word_fits _ _ _ _ _ _ _ c.loop-at.invariant _ (broken_tells _ _ _ (sym c.in-Broken.ensures)) c.requires.0 c.requires.1,
+  omega arith,
+)
 
 pub loop-at-preserved-in-Broken : goal.loop-at-preserved-in-Broken
 loop-at-preserved-in-Broken c = let e = c.put_line-bytes.ensures in

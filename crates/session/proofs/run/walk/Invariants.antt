@@ -1,14 +1,9 @@
 -- `session::run::walk` meets its contract: what is left of the session gives the whole.
 -- Assumes nothing.
-use mathlib.Core.Path.{sym, ap₂, ◌∙◌}
 use Prim.Native.Nat.{◌-◌}
-use native.Mathlib.Omega.{arith}
-use borrow.Author.Rules.{rules}
 use lib.ListN.{length}
-use Rattle.records.proofs.Steps.{RecordTells, BrokenTells, record_tells, broken_tells, end_tells}
-use Rattle.effects.specs.Parts.{in_parts, Lent}
-use Rattle.session.proofs.Playing.{Playing, play_first, body_there, text_fits, play_more, word_fits}
-use Rattle.session.proofs.Playing.{play_last, all_state, all_printed, all_count}
+use Rattle.effects.specs.Parts.{in_parts}
+use Rattle.session.proofs.Playing.{Playing}
 use Rattle.session.proofs.run.walk.Given as goal
 
 abbrev pub invariant-loop-at : goal.invariant-loop-at

@@ -3,7 +3,6 @@
 -- Assumes nothing.
 use mathlib.Core.Path.{◌≡◌, refl, sym, ◌∙◌}
 use Prim.Native.Nat.{ℕ}
-use borrow.Author.Rules.{rules}
 use borrow.Author.Tests.{eq-eqb, ne_eqb}
 use lib.ListN.{set, replicate}
 use Rattle.bus.specs.States.{zero_state, fresh_answer}
@@ -21,19 +20,19 @@ returns-then-state-ne-STATE_LENGTH c = rw (ne_eqb _ 1283 c.if-state-ne-STATE_LEN
 pub returns-then-known_chip : goal.returns-then-known_chip
 unfolding lent_reply lent_after fresh_answer
 returns-then-known_chip c = rw (
-      eq-eqb _ 1283 c.if-state-ne-STATE_LENGTH.false,
-      sym c.known_chip.ensures ∙ c.if-known_chip.true,
-      c.clear.ensures,
-      c.if-state-ne-STATE_LENGTH.false,
-    )
+  eq-eqb _ 1283 c.if-state-ne-STATE_LENGTH.false,
+  sym c.known_chip.ensures ∙ c.if-known_chip.true,
+  c.clear.ensures,
+  c.if-state-ne-STATE_LENGTH.false,
+)
     (refl, zeros-with _)
 
 pub returns : goal.returns
 unfolding lent_reply lent_after fresh_answer
 returns c = rw (
-      eq-eqb _ 1283 c.if-state-ne-STATE_LENGTH.false,
-      sym c.known_chip.ensures ∙ c.if-known_chip.false,
-      c.clear.ensures,
-      c.if-state-ne-STATE_LENGTH.false,
-    )
+  eq-eqb _ 1283 c.if-state-ne-STATE_LENGTH.false,
+  sym c.known_chip.ensures ∙ c.if-known_chip.false,
+  c.clear.ensures,
+  c.if-state-ne-STATE_LENGTH.false,
+)
     (refl, zeros-with 0)

@@ -1,7 +1,6 @@
 -- `states::lent::set_status` meets its contract: the byte's place in the lent bytes.
 -- Assumes nothing.
 use mathlib.Core.Path.{refl}
-use borrow.Author.Rules.{rules}
 use borrow.Author.Tests.{eq-eqb, ne_eqb}
 use Rattle.states.specs.Lent.{lent_reply, lent_after}
 use Rattle.states.proofs.Parts.{status_anew}

@@ -2,7 +2,6 @@
 -- Assumes nothing.
 use native.Mathlib.Nat.{mul-le-mul}
 use native.Mathlib.Omega.{arith}
-use borrow.Author.Rules.{rules}
 use Rattle.scaler.specs.Limits.{clock_passes}
 use Rattle.scaler.proofs.Windows.{by_le}
 use Rattle.steps.proofs.clock.clock_passes.Goals as goal

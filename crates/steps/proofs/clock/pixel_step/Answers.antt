@@ -3,7 +3,6 @@
 -- the clock limit, in each case
 use Prim.Native.Nat.{◌*◌, ◌≤◌}
 use native.Mathlib.Omega.{arith}
-use borrow.Author.Rules.{rules}
 use borrow.Author.Tests.{eq-eqb, ne_eqb}
 use Rattle.scaler.proofs.Windows.{by_le}
 use Rattle.steps.proofs.clock.pixel_step.Goals.{Else-standard-eq-SIXTY, Then-standard-eq-SIXTY}

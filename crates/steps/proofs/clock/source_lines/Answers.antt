@@ -3,7 +3,6 @@
 use Prim.Native.Nat.{◌+◌}
 use native.Mathlib.Nat.{mul-le-mul}
 use native.Mathlib.Omega.{arith}
-use borrow.Author.Rules.{rules}
 use Rattle.scaler.specs.Numbers.{lines_of}
 use Rattle.scaler.proofs.Windows.{by_le}
 use Rattle.steps.proofs.clock.source_lines.Goals as goal

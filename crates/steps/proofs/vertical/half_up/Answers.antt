@@ -2,9 +2,6 @@
 use Prim.Native.Nat.{◌*◌}
 use native.Mathlib.Omega.{arith}
 use borrow.Author.Tests.{le-leb, lt-leb}
-use borrow.Author.Rules.{rules}
-use Rattle.steps.proofs.vertical.half_up.Reads as reads
-use Rattle.steps.proofs.vertical.half_up.Lts as lts
 use Rattle.steps.proofs.vertical.half_up.Goals as goal
 
 pub returns-then-den-rest : goal.returns-then-den-rest

@@ -1,8 +1,6 @@
 -- `steps::vertical::step_den` meets its contract: the formula is the definition's own.
 -- Assumes nothing.
 use mathlib.Core.Path.{refl}
-use native.Mathlib.Omega.{arith}
-use borrow.Author.Rules.{rules}
 use Rattle.scaler.specs.Numbers.{den_of}
 use Rattle.steps.proofs.vertical.step_den.Goals as goal
 

@@ -5,7 +5,6 @@ use mathlib.Core.Path.{refl}
 use Prim.Native.Nat.{◌+◌, ◌*◌, ◌≤◌}
 use native.Mathlib.Nat.{mul-le-mul}
 use native.Mathlib.Omega.{arith}
-use borrow.Author.Rules.{rules}
 use Rattle.scaler.specs.Numbers.{num_of}
 use Rattle.steps.proofs.vertical.step_num.Goals.{Start}
 use Rattle.steps.proofs.vertical.step_num.Goals as goal

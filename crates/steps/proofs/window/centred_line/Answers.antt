@@ -1,7 +1,6 @@
 -- `steps::window::centred_line` meets its contract: each signed value fits 64 bits.
 -- Assumes nothing.
 -- every value on the way
-use mathlib.Core.Path.{refl}
 use borrow.Author.Rules.{rules}
 use Rattle.scaler.proofs.Machine.{Centred, centred}
 use Rattle.steps.proofs.window.centred_line.Goals.{After-by_standard-full}

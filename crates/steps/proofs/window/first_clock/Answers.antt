@@ -2,7 +2,6 @@
 -- Assumes nothing.
 use mathlib.Core.Path.{sym}
 use native.Mathlib.Omega.{arith}
-use borrow.Author.Rules.{rules}
 use Rattle.scaler.proofs.Windows.{by_le, most_below, adwhs_is}
 use Rattle.steps.proofs.window.first_clock.Goals as goal
 

@@ -1,7 +1,6 @@
 -- `thymeflask::pictures::thymeflask_check` meets its contract: beside the reply 0 the bytes of the numbers.
 -- Assumes nothing.
 use mathlib.Core.Path.{refl}
-use borrow.Author.Rules.{rules}
 use borrow.Author.Tests.{eq-eqb, ne_eqb}
 use Rattle.thymeflask.specs.Pictures.{check_reply, check_after}
 use Rattle.thymeflask.proofs.pictures.thymeflask_check.Goals as goal

@@ -1,7 +1,6 @@
 -- `thymeflask::pictures::thymeflask_read_picture` meets its contract: beside the reply 0 the request's bytes.
 -- Assumes nothing.
 use mathlib.Core.Path.{refl}
-use borrow.Author.Rules.{rules}
 use borrow.Author.Tests.{eq-eqb, ne_eqb}
 use Rattle.thymeflask.specs.Pictures.{read_reply, read_after}
 use Rattle.thymeflask.proofs.pictures.thymeflask_read_picture.Goals as goal

@@ -1,7 +1,6 @@
 -- `thymeflask::pictures::thymeflask_write_picture` meets its contract: the write of the request in the bytes.
 -- Assumes nothing.
 use mathlib.Core.Path.{refl}
-use borrow.Author.Rules.{rules}
 use borrow.Author.Tests.{eq-eqb, ne_eqb}
 use Rattle.thymeflask.specs.Pictures.{write_reply, write_after}
 use Rattle.thymeflask.proofs.pictures.thymeflask_write_picture.Goals as goal

@@ -1,7 +1,6 @@
 -- `thymeflask::state::thymeflask_read` meets its contract: the reply, and the byte above it.
 -- Assumes nothing.
 use mathlib.Core.Path.{ap}
-use borrow.Author.Rules.{rules}
 use Rattle.thymeflask.specs.Results.{read_result}
 use Rattle.thymeflask.proofs.state.thymeflask_read.Goals as goal
 

@@ -1,7 +1,6 @@
 -- `transactions::decode::registers_pass` meets its contract: the test is the definition.
 -- Assumes nothing.
 use mathlib.Core.Path.{refl}
-use borrow.Author.Rules.{rules}
 use Rattle.transactions.specs.Writes.{registers_pass}
 use Rattle.transactions.proofs.decode.registers_pass.Goals as goal
 

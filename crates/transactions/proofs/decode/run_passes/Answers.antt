@@ -1,6 +1,5 @@
 -- `transactions::decode::run_passes` meets its contract: one of three tests, by the subaddress.
 -- Assumes nothing.
-use borrow.Author.Rules.{rules}
 use borrow.Author.Tests.{eq-eqb, ne_eqb}
 use Rattle.transactions.specs.Writes.{passes}
 use Rattle.transactions.proofs.decode.run_passes.Goals as goal

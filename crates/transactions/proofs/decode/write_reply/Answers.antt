@@ -2,7 +2,6 @@
 -- number first.
 -- Assumes nothing.
 use mathlib.Core.Path.{sym, ◌∙◌}
-use borrow.Author.Rules.{rules}
 use borrow.Author.Tests.{lt-ltb, le-ltb, eq-eqb, ne_eqb}
 use Rattle.reply.specs.Reply.{lowest}
 use Rattle.transactions.specs.Writes.{write_tests, write_reply}
@@ -20,15 +19,15 @@ returns-then-transaction c = simp (le-ltb _ _ c.if-transaction-lt2.false, ne_eqb
 pub returns-then-run_passes : goal.returns-then-run_passes
 unfolding write_reply write_tests lowest
 returns-then-run_passes c = simp (
-      le-ltb _ _ c.if-transaction-lt2.false,
-      eq-eqb _ _ c.if-transaction.false,
-      simp tail_part at (sym c.run_passes.ensures ∙ c.if-run_passes.true),
-    )
+  le-ltb _ _ c.if-transaction-lt2.false,
+  eq-eqb _ _ c.if-transaction.false,
+  simp tail_part at (sym c.run_passes.ensures ∙ c.if-run_passes.true),
+)
 
 pub returns : goal.returns
 unfolding write_reply write_tests lowest
 returns c = simp (
-      le-ltb _ _ c.if-transaction-lt2.false,
-      eq-eqb _ _ c.if-transaction.false,
-      simp tail_part at (sym c.run_passes.ensures ∙ c.if-run_passes.false),
-    )
+  le-ltb _ _ c.if-transaction-lt2.false,
+  eq-eqb _ _ c.if-transaction.false,
+  simp tail_part at (sym c.run_passes.ensures ∙ c.if-run_passes.false),
+)

@@ -2,7 +2,6 @@
 -- number first.
 -- Assumes nothing.
 use mathlib.Core.Path.{sym, ◌∙◌}
-use borrow.Author.Rules.{rules}
 use borrow.Author.Tests.{eq-eqb, ne_eqb}
 use Rattle.reply.specs.Reply.{lowest}
 use Rattle.transactions.specs.Reads.{read_tests, read_reply}
@@ -19,25 +18,25 @@ returns-then-transaction c = simp (eq-eqb _ _ c.if-transaction-ne3.false, ne_eqb
 pub returns-then-transaction-2 : goal.returns-then-transaction-2
 unfolding read_reply read_tests lowest
 returns-then-transaction-2 c = simp (
-      eq-eqb _ _ c.if-transaction-ne3.false,
-      eq-eqb _ _ c.if-transaction.false,
-      ne_eqb _ _ c.if-transaction-2.true,
-    )
+  eq-eqb _ _ c.if-transaction-ne3.false,
+  eq-eqb _ _ c.if-transaction.false,
+  ne_eqb _ _ c.if-transaction-2.true,
+)
 
 pub returns-then-is_readable : goal.returns-then-is_readable
 unfolding read_reply read_tests lowest
 returns-then-is_readable c = simp (
-      eq-eqb _ _ c.if-transaction-ne3.false,
-      eq-eqb _ _ c.if-transaction.false,
-      eq-eqb _ _ c.if-transaction-2.false,
-      sym c.is_readable.ensures ∙ c.if-is_readable.true,
-    )
+  eq-eqb _ _ c.if-transaction-ne3.false,
+  eq-eqb _ _ c.if-transaction.false,
+  eq-eqb _ _ c.if-transaction-2.false,
+  sym c.is_readable.ensures ∙ c.if-is_readable.true,
+)
 
 pub returns : goal.returns
 unfolding read_reply read_tests lowest
 returns c = simp (
-      eq-eqb _ _ c.if-transaction-ne3.false,
-      eq-eqb _ _ c.if-transaction.false,
-      eq-eqb _ _ c.if-transaction-2.false,
-      sym c.is_readable.ensures ∙ c.if-is_readable.false,
-    )
+  eq-eqb _ _ c.if-transaction-ne3.false,
+  eq-eqb _ _ c.if-transaction.false,
+  eq-eqb _ _ c.if-transaction-2.false,
+  sym c.is_readable.ensures ∙ c.if-is_readable.false,
+)

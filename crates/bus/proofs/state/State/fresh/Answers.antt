@@ -1,7 +1,6 @@
 -- `bus::state::State::fresh` meets its contract: by the test of the chip byte.
 -- Assumes nothing.
 use mathlib.Core.Path.{sym, ◌∙◌}
-use borrow.Author.Rules.{rules}
 use Rattle.bus.specs.States.{fresh_answer}
 use Rattle.bus.proofs.state.State.fresh.Goals as goal
 

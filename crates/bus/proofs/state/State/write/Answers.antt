@@ -40,54 +40,54 @@ slice_bounds-bytes-start c = omega (arith, (said (goal.at.slice_bounds-bytes-sta
 
 pub write_cells-requires : goal.write_cells-requires
 write_cells-requires c = let t = c.args.transaction.now in (
-      search rules,
-      search rules,
-      rw tail_part (cursor_fits (get_or t 1 0) (drop 2 t) (said (goal.at.write_cells-requires c).Else-reply-ne-DONE).fits c.if-subaddress.true),
-    )
+  search rules,
+  search rules,
+  rw tail_part (cursor_fits (get_or t 1 0) (drop 2 t) (said (goal.at.write_cells-requires c).Else-reply-ne-DONE).fits c.if-subaddress.true),
+)
 
 pub returns-then-subaddress : goal.returns-then-subaddress
 unfolding bus_write stored
 returns-then-subaddress c = simp (
-      c.write_cells.ensures,
-      tail_part,
-      c.if-reply-ne-DONE.false,
-      zero (goal.at.returns-then-subaddress c).Else-reply-ne-DONE,
-      eq-eqb _ _ c.if-subaddress.true,
-    )
+  c.write_cells.ensures,
+  tail_part,
+  c.if-reply-ne-DONE.false,
+  zero (goal.at.returns-then-subaddress c).Else-reply-ne-DONE,
+  eq-eqb _ _ c.if-subaddress.true,
+)
 
 pub write_cells-requires-then-subaddress-2 : goal.write_cells-requires-then-subaddress-2
 write_cells-requires-then-subaddress-2 c = let t = c.args.transaction.now in (
-      search rules,
-      search rules,
-      rw tail_part (colours_fit (get_or t 1 0) (drop 2 t) (said (goal.at.write_cells-requires-then-subaddress-2 c).Else-reply-ne-DONE).fits
-          c.if-subaddress.false c.if-subaddress-2.true),
-    )
+  search rules,
+  search rules,
+  rw tail_part (colours_fit (get_or t 1 0) (drop 2 t) (said (goal.at.write_cells-requires-then-subaddress-2 c).Else-reply-ne-DONE).fits
+      c.if-subaddress.false c.if-subaddress-2.true),
+)
 
 pub returns-then-subaddress-2 : goal.returns-then-subaddress-2
 unfolding bus_write stored
 returns-then-subaddress-2 c = simp (
-      c.write_cells-then-subaddress-2.ensures,
-      tail_part,
-      c.if-reply-ne-DONE.false,
-      zero (goal.at.returns-then-subaddress-2 c).Else-reply-ne-DONE,
-      ne_eqb _ _ c.if-subaddress.false,
-      eq-eqb _ _ c.if-subaddress-2.true,
-    )
+  c.write_cells-then-subaddress-2.ensures,
+  tail_part,
+  c.if-reply-ne-DONE.false,
+  zero (goal.at.returns-then-subaddress-2 c).Else-reply-ne-DONE,
+  ne_eqb _ _ c.if-subaddress.false,
+  eq-eqb _ _ c.if-subaddress-2.true,
+)
 
 pub write_registers-requires : goal.write_registers-requires
 write_registers-requires c = let t = c.args.transaction.now in (
-      search rules,
-      rw tail_part (registers_fit (get_or t 1 0) (drop 2 t) (said (goal.at.write_registers-requires c).Else-reply-ne-DONE).fits
-          c.if-subaddress.false c.if-subaddress-2.false),
-    )
+  search rules,
+  rw tail_part (registers_fit (get_or t 1 0) (drop 2 t) (said (goal.at.write_registers-requires c).Else-reply-ne-DONE).fits
+      c.if-subaddress.false c.if-subaddress-2.false),
+)
 
 pub returns : goal.returns
 unfolding bus_write stored
 returns c = simp (
-      c.write_registers.ensures,
-      tail_part,
-      c.if-reply-ne-DONE.false,
-      zero (goal.at.returns c).Else-reply-ne-DONE,
-      ne_eqb _ _ c.if-subaddress.false,
-      ne_eqb _ _ c.if-subaddress-2.false,
-    )
+  c.write_registers.ensures,
+  tail_part,
+  c.if-reply-ne-DONE.false,
+  zero (goal.at.returns c).Else-reply-ne-DONE,
+  ne_eqb _ _ c.if-subaddress.false,
+  ne_eqb _ _ c.if-subaddress-2.false,
+)
