@@ -6,7 +6,7 @@ use std::path::PathBuf;
 fn main() {
     let directory = match env::var_os("THYMEFLASK_LIB_DIR") {
         Some(given) => PathBuf::from(given),
-        None => package_directory().join("../target/staticlib"),
+        None => package_directory().join("../crates/thymeflask/out"),
     };
     let archive = directory.join("libthymeflask.a");
     if !archive.exists() {

@@ -7,15 +7,15 @@ ghost use Rattle.fields.specs.Shapes.{bits_of, split_of, three_of};
 use pieces::{get_piece, put_piece};
 
 // Bits of one place: the place, the lowest bit's position, and how many.
-#[derive(Drop)]
+#[derive(Clone, Copy)]
 pub struct Bits(pub usize, pub u32, pub u32);
 
 // A whole low byte, and the bits above it: the two places, and position and width in the second.
-#[derive(Drop)]
+#[derive(Clone, Copy)]
 pub struct Split(pub usize, pub usize, pub u32, pub u32);
 
 // Three whole bytes: their places, the lowest byte's first.
-#[derive(Drop)]
+#[derive(Clone, Copy)]
 pub struct Three(pub usize, pub usize, pub usize);
 
 // The number goes into the bits; what does not fit them is left out, here and below.

@@ -9,7 +9,7 @@ use reply::{DONE, NOT_WRITABLE, TOO_LONG, WRONG_LENGTH};
 use runs::find::find_runs;
 
 // The reply, and the list's bytes and bursts, both 0 beside a refusal.
-#[derive(Drop)]
+#[derive(Clone, Copy)]
 pub struct Planned {
     pub reply: u8,
     pub bytes: usize,

@@ -19,7 +19,7 @@ use steps::window::{centred_line, middle_clock};
 use table::get_values;
 
 // The reply, and the request, all 0 beside a refusal.
-#[derive(Drop)]
+#[derive(Clone, Copy)]
 pub struct Found {
     pub reply: u8,
     pub request: Request,

@@ -5,7 +5,7 @@ ghost use Rattle.records.specs.Records.{record_at};
 
 use crate::record::{Step, record_at};
 
-#[derive(Drop)]
+#[derive(Clone, Copy)]
 pub struct Reader<'a> {
     pub session: &'a [u8],
     pub at: usize,

@@ -14,7 +14,7 @@ pub const CURSOR: u8 = 0x04;
 pub const SHOW: u8 = 0x05;
 
 // What stands at a place of a session.
-#[derive(Drop)]
+#[derive(Clone, Copy)]
 pub enum Step {
     // A whole record: its kind, where its body begins, and where the next record does.
     Record { kind: u8, body: usize, next: usize },

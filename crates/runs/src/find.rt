@@ -16,14 +16,14 @@ const BRIDGE: usize = 2;
 const HEADING: usize = 2;
 
 // Where a run ends, and the next changed place behind it.
-#[derive(Drop)]
+#[derive(Clone, Copy)]
 pub struct Extent {
     pub end: usize,
     pub next: usize,
 }
 
 // Whether a place can't be written, and the bytes and bursts of the runs.
-#[derive(Drop)]
+#[derive(Clone, Copy)]
 pub struct Found {
     pub fixed: bool,
     pub bytes: usize,

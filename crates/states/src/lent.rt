@@ -26,7 +26,7 @@ const CHIP_AT: usize = 1281;
 const FIFO_AT: usize = 1282;
 
 // The reply to a read, and the byte, 0 beside a refusal.
-#[derive(Drop)]
+#[derive(Clone, Copy)]
 pub struct Got {
     pub reply: u8,
     pub byte: u8,

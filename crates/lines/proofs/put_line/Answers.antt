@@ -1,6 +1,5 @@
 -- `lines::put_line` meets its contract: five stores, one behind the other.
 -- Assumes nothing.
--- the line lies in the buffer
 use mathlib.Core.Path.{◌≡◌, refl}
 use Prim.Native.Nat.{suc, ◌+◌, ◌≤◌}
 use native.Mathlib.Omega.{arith}

@@ -4,7 +4,6 @@ use Prim.Native.Nat.{◌-◌, ◌≤◌}
 use lib.ListN.{length}
 use Rattle.report.proofs.hex_bytes.Given as goal
 
--- CHECK ARGS bytes i₀ i / rt bytes i
 abbrev pub invariant-loop-i : goal.invariant-loop-i
 invariant-loop-i g l = l.i ≤ length l.bytes
 

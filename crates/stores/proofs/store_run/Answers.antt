@@ -1,7 +1,6 @@
 -- `stores::store_run` meets its contract: what is left of the run gives the whole. The measure is what
 -- is left of the bytes.
 -- Assumes nothing.
--- what a place takes: the byte itself
 use mathlib.Core.Path.{refl, ◌∙◌}
 use Prim.Native.Nat.{ℕ}
 use native.Mathlib.Nat.{add-zero}
@@ -10,6 +9,7 @@ use lib.Seq.{sets}
 use Rattle.bits.proofs.Runs.{turn_next, turn_last}
 use Rattle.stores.proofs.store_run.Goals as goal
 
+-- what a place takes: the byte itself
 abbrev stored : ℕ → ℕ → ℕ → ℕ
 stored p old b = b
 

@@ -1,7 +1,6 @@
 -- `stores::store_run` meets its contract: what is left of the run gives the whole. The measure is what
 -- is left of the bytes.
 -- Assumes nothing.
--- what a place takes: the byte itself
 use mathlib.Core.Path.{◌≡◌}
 use Prim.Native.Nat.{◌+◌, ◌-◌, ◌≤◌}
 use lib.ListN.{length, drop}

@@ -1,6 +1,5 @@
 -- `writers::write_cells` meets its contract: no data, or a start cell and the bytes behind it.
 -- Assumes nothing.
--- the run lies in the map
 use mathlib.Core.Path.{◌≡◌, sym}
 use Prim.Native.Nat.{◌+◌, ◌-◌, ◌*◌, ◌≤◌}
 use native.Mathlib.Omega.{arith}
@@ -11,6 +10,7 @@ use Rattle.writers.specs.Cells.{cells_run}
 use Rattle.writers.proofs.write_cells.Goals.{Then-bytes-gt0}
 use Rattle.writers.proofs.write_cells.Goals as goal
 
+-- the run lies in the map
 fit : (c : Then-bytes-gt0)
     → (let a = c.args in
     a.width * get_or a.bytes.now 0 0 + (length a.bytes.now - 1) ≤ length a.map.now)

@@ -1,6 +1,5 @@
 -- `steps::clock::pixel_step` meets its contract: the formula in each case; the clock limit bounds it.
 -- Assumes nothing.
--- the clock limit, in each case
 use Prim.Native.Nat.{◌*◌, ◌≤◌}
 use native.Mathlib.Omega.{arith}
 use borrow.Author.Tests.{eq-eqb, ne_eqb}
@@ -8,6 +7,7 @@ use Rattle.scaler.proofs.Windows.{by_le}
 use Rattle.steps.proofs.clock.pixel_step.Goals.{Else-standard-eq-SIXTY, Then-standard-eq-SIXTY}
 use Rattle.steps.proofs.clock.pixel_step.Goals as goal
 
+-- the clock limit, in each case
 sixty : (c : Then-standard-eq-SIXTY) → 3 * c.args.clocks ≤ 5 * 450450
 sixty c = rw (eq-eqb c.args.standard 0 c.if-standard-eq-SIXTY.true) at c.requires
 

@@ -1,6 +1,5 @@
 -- `steps::vertical::step_num` meets its contract: two factors of 16 and 17 bits, and 4,096.
 -- Assumes nothing.
--- the two factors that vary, at their largest
 use mathlib.Core.Path.{refl}
 use Prim.Native.Nat.{◌+◌, ◌*◌, ◌≤◌}
 use native.Mathlib.Nat.{mul-le-mul}
@@ -9,6 +8,7 @@ use Rattle.scaler.specs.Numbers.{num_of}
 use Rattle.steps.proofs.vertical.step_num.Goals.{Start}
 use Rattle.steps.proofs.vertical.step_num.Goals as goal
 
+-- the two factors that vary, at their largest
 bound : (c : Start) → c.args.outlin * (4095 + c.args.yskip) ≤ 65535 * 69630
 bound c = mul-le-mul {n₂ = 65535} {m₂ = 69630} (omega arith) (omega arith)
 

@@ -1,7 +1,6 @@
 -- `steps::vertical::vertical_part` meets its contract: all numbers from one division, in the two cases of
 -- YSKIP.
 -- Assumes nothing.
--- what is known of N and D, of their quotient, and of what is left
 use mathlib.Core.Path.{sym}
 use mathlib.Core.Bool.{cond}
 use Prim.Native.Nat.{ℕ, ◌*◌, ◌/◌, ◌%◌, ◌^◌, ◌<◌, ◌≤◌}
@@ -16,6 +15,7 @@ use Rattle.steps.proofs.Verticals.{vertical_early, vertical_late}
 use Rattle.steps.proofs.vertical.vertical_part.Goals.{After-step_den-den}
 use Rattle.steps.proofs.vertical.vertical_part.Goals as goal
 
+-- what is known of N and D, of their quotient, and of what is left
 record Known (n d : ℕ) : Type 0 where
   positive : 0 < d
   quotient : n / d < 2 ^ 48

@@ -1,11 +1,11 @@
 -- `steps::window::centred_line` meets its contract: each signed value fits 64 bits.
 -- Assumes nothing.
--- every value on the way
 use borrow.Author.Rules.{rules}
 use Rattle.scaler.proofs.Machine.{Centred, centred}
 use Rattle.steps.proofs.window.centred_line.Goals.{After-by_standard-full}
 use Rattle.steps.proofs.window.centred_line.Goals as goal
 
+-- every value on the way
 known : (c : After-by_standard-full)
     → (let a = c.args in
     Centred a.standard a.outlin c.by_standard-top.result c.by_standard-full.result)

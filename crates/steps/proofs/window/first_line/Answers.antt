@@ -1,7 +1,6 @@
 -- `steps::window::first_line` meets its contract: each signed value fits 64 bits, and the last is not
 -- below 0.
 -- Assumes nothing.
--- every value on the way
 use borrow.Author.Rules.{rules}
 use Rattle.bits.proofs.Tests.{is_true}
 use Rattle.scaler.specs.Limits.{offset_holds}
@@ -9,6 +8,7 @@ use Rattle.scaler.proofs.Machine.{centred_small, Shifted, shifted_line}
 use Rattle.steps.proofs.window.first_line.Goals.{After-centred_line}
 use Rattle.steps.proofs.window.first_line.Goals as goal
 
+-- every value on the way
 known : (c : After-centred_line)
     → (let a = c.args in Shifted a.standard a.outlin a.offset c.centred_line.result)
 known c =
