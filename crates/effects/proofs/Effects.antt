@@ -15,7 +15,7 @@ use Rattle.chip.specs.Map.{masks, masks_from}
 use Rattle.reply.specs.Reply.{lowest}
 use Rattle.reply.proofs.Lowest.{all_below, lowest_below}
 use Rattle.transactions.specs.Writes.{write_address, cursor_at, colours_at, from_start, cells_pass, passes}
-use Rattle.transactions.specs.Writes.{write_tests as busTests, write_reply as busReply}
+use Rattle.transactions.specs.Writes.{write_tests as bus_tests, write_reply as bus_reply}
 use Rattle.writers.specs.Cells.{cells_run}
 use Rattle.bus.specs.States.{stored, bus_write}
 use Rattle.bus.specs.Sending.{transaction}
@@ -108,7 +108,7 @@ cell_fits width (cell ∷ bytes) w n l =
 -- a write whose run does not pass its end is done
 write_done : (s : State) (subaddress : ℕ) (body : List ℕ) → passes subaddress body ≡ false
     → bus_write s (write_address ∷ subaddress ∷ body) ≡ record { state = stored s subaddress body; reply = 0 }
-unfolding bus_write busReply busTests lowest
+unfolding bus_write bus_reply bus_tests lowest
 write_done s subaddress body fits = rw (fits, le-ltb (suc (suc (length body))) 2 (omega arith))
 
 pub colour_does : (body file colours cursor : List ℕ) → cells_pass 3 body ≡ false

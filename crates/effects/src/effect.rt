@@ -1,6 +1,6 @@
 // do_record: a record done on a lent file, colour table and cursor map.
 ghost use Rattle.std.specs.Prelude.{◌≡◌};
-ghost use Rattle.chip.specs.Map.{masks as mapMasks};
+ghost use Rattle.chip.specs.Map.{masks as map_masks};
 ghost use Rattle.effects.specs.Parts.{Lent, Body, Does};
 
 use bits::merge::merge_byte;
@@ -20,7 +20,7 @@ pub fn do_record(
     kind: u8,
     body: &[u8],
 ) -> u8
-    requires { (masks.now ≡ mapMasks) × Lent file.old colours.old cursor.old
+    requires { (masks.now ≡ map_masks) × Lent file.old colours.old cursor.old
         × Body kind body.now }
     ensures { Does kind body.now file.old colours.old
         cursor.old result file.new colours.new cursor.new }
