@@ -8,7 +8,7 @@ use transactions::decode::{COLOUR_CELL, COLOURS, CURSOR, CURSOR_CELL, write_repl
 use transactions::read::{read_reply, readable_byte};
 use writers::{write_cells, write_registers};
 
-#[derive(Drop)]
+#[derive(Clone, Copy)]
 pub struct State {
     pub file: [u8; 256],
     // 256 cells of red, green and blue.
@@ -21,14 +21,14 @@ pub struct State {
 }
 
 // The next state, and the reply.
-#[derive(Drop)]
+#[derive(Clone, Copy)]
 pub struct Answer {
     pub state: State,
     pub reply: u8,
 }
 
 // The next state, the reply, and the byte that was read, 0 beside a refusal.
-#[derive(Drop)]
+#[derive(Clone, Copy)]
 pub struct ReadAnswer {
     pub state: State,
     pub reply: u8,

@@ -22,7 +22,7 @@ const LONGEST_PRINT: usize = 65536;
 const SAA7103: u8 = 0x03;
 
 // The next state, and how many bytes were printed.
-#[derive(Drop)]
+#[derive(Clone, Copy)]
 pub struct Ran {
     pub state: State,
     pub bytes: usize,

@@ -42,33 +42,33 @@ fn show(rt: &impl Print, name: &[u8], session: &[u8]) -> State {
     ran.state
 }
 
-fn show_readable(rt: &impl Print, state: &State) {
+fn show_readable(rt: &impl Print, state: State) {
     let bytes = [state.status, state.chip, state.fifo];
     show_bytes(rt, b"  status, chip, fifo:", &bytes);
 }
 
 // The colour table's first and last cell.
-fn show_colours(rt: &impl Print, state: &State) {
+fn show_colours(rt: &impl Print, state: State) {
     let colours = state.colours;
     show_bytes(rt, b"  colour cell 0:", part(&colours, 0, 3));
     show_bytes(rt, b"  colour cell 255:", part(&colours, 765, 768));
 }
 
 // The cursor map's first and last byte.
-fn show_cursor(rt: &impl Print, state: &State) {
+fn show_cursor(rt: &impl Print, state: State) {
     let cursor = state.cursor;
     show_bytes(rt, b"  cursor byte 0:", part(&cursor, 0, 1));
     show_bytes(rt, b"  cursor byte 255:", part(&cursor, 255, 256));
 }
 
 // PCL's places in the file.
-fn show_clock(rt: &impl Print, state: &State) {
+fn show_clock(rt: &impl Print, state: State) {
     let file = state.file;
     show_bytes(rt, b"  places 81h to 83h:", part(&file, 0x81, 0x84));
 }
 
 // Some bytes of each part of the state.
-fn show_state(rt: &impl Print, state: &State) {
+fn show_state(rt: &impl Print, state: State) {
     show_clock(rt, state);
     show_colours(rt, state);
     show_cursor(rt, state);
@@ -77,10 +77,10 @@ fn show_state(rt: &impl Print, state: &State) {
 
 // All is done; no record changes the readable bytes.
 fn whole(rt: &impl Print) {
-    show_state(rt, &show(rt, b"no record:", b""));
+    show_state(rt, show(rt, b"no record:", b""));
     show_state(
         rt,
-        &show(
+        show(
             rt,
             b"every kind:",
             b"\x01\x00\x80\x02\xe0\x01\x20\x03\x80\x02\xd8\x00\x00\x00\x50\x00\x42\x00\x00\x02\x82\xc0\
@@ -102,30 +102,30 @@ fn kinds_alone(rt: &impl Print) {
 fn cut_short(rt: &impl Print) {
     show_clock(
         rt,
-        &show(
+        show(
             rt,
             b"01, figure 1 of document 01, a byte short:",
             b"\x02\x82\x3f\x01\x00\x80\x02\xe0\x01\x20\x03\x80\x02\xd8\x00\x00\x00\x50\x00\x42\x00",
         ),
     );
-    show_clock(rt, &show(rt, b"02 a byte short:", b"\x02\x82\x3f\x02\x81"));
+    show_clock(rt, show(rt, b"02 a byte short:", b"\x02\x82\x3f\x02\x81"));
     show_colours(
         rt,
-        &show(
+        show(
             rt,
             b"03 a byte short:",
             b"\x03\xff\x44\x55\x66\x03\x00\x11\x22",
         ),
     );
-    show_cursor(rt, &show(rt, b"04 a byte short:", b"\x04\xff\x88\x04\x00"));
-    show_clock(rt, &show(rt, b"05 a byte short:", b"\x02\x82\x3f\x05"));
+    show_cursor(rt, show(rt, b"04 a byte short:", b"\x04\xff\x88\x04\x00"));
+    show_clock(rt, show(rt, b"05 a byte short:", b"\x02\x82\x3f\x05"));
 }
 
 // What stands behind a record of unknown kind is not done.
 fn unknown(rt: &impl Print) {
-    show_clock(rt, &show(rt, b"kind 00:", b"\x02\x82\x3f\x00\x02\x81\x2b"));
-    show_clock(rt, &show(rt, b"kind 06:", b"\x02\x82\x3f\x06\x02\x81\x2b"));
-    show_clock(rt, &show(rt, b"kind ff:", b"\x02\x82\x3f\xff\x02\x81\x2b"));
+    show_clock(rt, show(rt, b"kind 00:", b"\x02\x82\x3f\x00\x02\x81\x2b"));
+    show_clock(rt, show(rt, b"kind 06:", b"\x02\x82\x3f\x06\x02\x81\x2b"));
+    show_clock(rt, show(rt, b"kind ff:", b"\x02\x82\x3f\xff\x02\x81\x2b"));
 }
 
 // The byte at a place of a session that is nothing but 05 81.
@@ -181,7 +181,7 @@ fn short_buffer(rt: &impl Print) {
     count(rt, b"  bytes printed: ", ran.bytes);
     show_bytes(rt, b"  buffer from 0:", part(&out, 0, 13));
     show_bytes(rt, b"  buffer from 65522:", part(&out, 65522, 65535));
-    show_state(rt, &ran.state);
+    show_state(rt, ran.state);
 }
 
 fn main(rt: HostRuntime) {
