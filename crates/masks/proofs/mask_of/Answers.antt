@@ -1,12 +1,12 @@
 -- `masks::mask_of` meets its contract: every arm has its row, and the mask stands in it.
 -- Assumes nothing.
 use mathlib.Core.Path.{◌≡◌, ◌∙◌}
+use mathlib.Core.Logic.{⊎_elim}
 use Prim.Native.Nat.{ℕ, ◌/◌}
 use native.Mathlib.Omega.{arith}
 use borrow.Author.Rules.{rules}
 use Rattle.chip.specs.Map.{masks, masks_from, named_at, printed}
 use Rattle.masks.proofs.Rows.{row_at, joined, in_row_lem, unlisted}
-use Rattle.masks.proofs.mask_of.Goals.{in-2, in-3, in-4, in-5, in-7, in-10, in-11, in-12, in-13, in-14, in-15, in-16, in-18, in-19, in-20, in-30, in-31, in_default}
 use Rattle.masks.proofs.mask_of.Goals as goal
 
 row_of : (k n r : ℕ) → k ≡ n → r ≡ row_at n → r ≡ row_at k
@@ -19,24 +19,23 @@ returns c =
     let m = c.match-place-div8 in
     -- every arm has the row of its places
     let row : m.row ≡ row_at k =
-    elim m.branch [
-      | in-2 w ↦ row_of k 2 m.row (omega arith) w.row-is
-      | in-3 w ↦ row_of k 3 m.row (omega arith) w.row-is
-      | in-4 w ↦ row_of k 4 m.row (omega arith) w.row-is
-      | in-5 w ↦ row_of k 5 m.row (omega arith) w.row-is
-      | in-7 w ↦ row_of k 7 m.row (omega arith) w.row-is
-      | in-10 w ↦ row_of k 10 m.row (omega arith) w.row-is
-      | in-11 w ↦ row_of k 11 m.row (omega arith) w.row-is
-      | in-12 w ↦ row_of k 12 m.row (omega arith) w.row-is
-      | in-13 w ↦ row_of k 13 m.row (omega arith) w.row-is
-      | in-14 w ↦ row_of k 14 m.row (omega arith) w.row-is
-      | in-15 w ↦ row_of k 15 m.row (omega arith) w.row-is
-      | in-16 w ↦ row_of k 16 m.row (omega arith) w.row-is
-      | in-18 w ↦ row_of k 18 m.row (omega arith) w.row-is
-      | in-19 w ↦ row_of k 19 m.row (omega arith) w.row-is
-      | in-20 w ↦ row_of k 20 m.row (omega arith) w.row-is
-      | in-30 w ↦ row_of k 30 m.row (omega arith) w.row-is
-      | in-31 w ↦ row_of k 31 m.row (omega arith) w.row-is
-      | in_default w ↦ w.row-is ∙ unlisted k (omega arith) (search rules)
-    ] in
+    ⊎_elim (λ w. row_of k 2 m.row (omega arith) w.row-is)
+    (⊎_elim (λ w. row_of k 3 m.row (omega arith) w.row-is)
+    (⊎_elim (λ w. row_of k 4 m.row (omega arith) w.row-is)
+    (⊎_elim (λ w. row_of k 5 m.row (omega arith) w.row-is)
+    (⊎_elim (λ w. row_of k 7 m.row (omega arith) w.row-is)
+    (⊎_elim (λ w. row_of k 10 m.row (omega arith) w.row-is)
+    (⊎_elim (λ w. row_of k 11 m.row (omega arith) w.row-is)
+    (⊎_elim (λ w. row_of k 12 m.row (omega arith) w.row-is)
+    (⊎_elim (λ w. row_of k 13 m.row (omega arith) w.row-is)
+    (⊎_elim (λ w. row_of k 14 m.row (omega arith) w.row-is)
+    (⊎_elim (λ w. row_of k 15 m.row (omega arith) w.row-is)
+    (⊎_elim (λ w. row_of k 16 m.row (omega arith) w.row-is)
+    (⊎_elim (λ w. row_of k 18 m.row (omega arith) w.row-is)
+    (⊎_elim (λ w. row_of k 19 m.row (omega arith) w.row-is)
+    (⊎_elim (λ w. row_of k 20 m.row (omega arith) w.row-is)
+    (⊎_elim (λ w. row_of k 30 m.row (omega arith) w.row-is)
+    (⊎_elim (λ w. row_of k 31 m.row (omega arith) w.row-is)
+    (λ w. w.row-is ∙ unlisted k (omega arith) (search rules))))))))))))))))))
+    m.branch-raw in
     rw row (in_row_lem c.args.place (omega arith))
