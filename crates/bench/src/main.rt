@@ -3,47 +3,29 @@
 // read nothing is done, and nothing else is written.
 #![tactic(auto)]
 
-ghost use Rattle.std.specs.Prelude.{◌≡◌, ◌+◌, ◌≤◌, length, take};
+ghost use Rattle.std.specs.Prelude.{◌≡◌, ◌+◌, ◌≤◌, length, take, IfOk};
 ghost use Rattle.session.specs.Runs.{played, bench_state, longest_session, longest_print};
 
+use std::io;
 use std::io::{Read, Write, writer};
 
-// What was read: how many bytes, and whether a read failed, with 0 bytes beside it.
-#[derive(Drop)]
-struct Input {
-    bytes: usize,
-    failed: bool,
-}
-
-// Reads into the front of a buffer until the input ends, the buffer is full or a read fails. There is room
-// for a byte more than the longest session, so that one that is too long is seen to be.
-fn read_session<R: Read>(input: &mut R, buffer: &mut [u8]) -> Input
+// Reads into the front of a buffer until the input ends or the buffer is full. The answer is how many bytes
+// stand there. There is room for a byte more than the longest session, so that one that is too long is seen
+// to be.
+fn read_session<R: Read>(input: &mut R, buffer: &mut [u8]) -> io::Result<usize>
     requires { length buffer.old ≡ longest_session + 1 }
-    ensures { (result.bytes ≤ length buffer.new) × (result.bytes ≡ length (take result.bytes buffer.new)) }
+    ensures { IfOk result (λ bytes. (bytes ≤ length buffer.new) × (bytes ≡ length (take bytes buffer.new))) }
 {
     let mut at = 0;
+    // No `for`: each read moves the place by as much as it read.
     while at < buffer.len() {
-        let count = match input.read(&mut buffer[at..]) {
-            Ok(count) => count,
-            Err(_) => {
-                return Input {
-                    bytes: 0,
-                    failed: true,
-                };
-            }
-        };
+        let count = input.read(&mut buffer[at..])?;
         if count == 0 {
-            return Input {
-                bytes: at,
-                failed: false,
-            };
+            break;
         }
         at += count;
     }
-    Input {
-        bytes: at,
-        failed: false,
-    }
+    Ok(at)
 }
 
 // A session done on a fresh SAA7103: what it prints is the front of the buffer. The answer is its length.
@@ -58,12 +40,10 @@ fn do_session(session: &[u8], out: &mut [u8]) -> usize
 fn main(rt: HostRuntime) {
     let mut buffer = [0u8; 16385];
     let mut reader = rt.reader();
-    let input = read_session(&mut reader, &mut buffer);
-    if input.failed {
+    let Ok(bytes) = read_session(&mut reader, &mut buffer) else {
         let _ = eprintln!(rt; "bench: standard input could not be read");
         return;
-    }
-    let bytes = input.bytes;
+    };
     let mut out = [0u8; 65536];
     let printed = do_session(&buffer[..bytes], &mut out);
     if writer(&rt).write_all(&out[..printed]).is_err() {

@@ -1,42 +1,39 @@
 // put_request: a request into the 18 bytes of a record of a session.
 ghost use Rattle.std.specs.Prelude.{◌≡◌, length};
-ghost use Rattle.requests.specs.Requests.{unsigned, request_bytes};
+ghost use Rattle.requests.specs.Requests.{request_bytes};
 
 use scaler::request::Request;
-use stores::store_run;
-
-// A number in two's complement.
-fn unsigned_byte(value: i8) -> u8
-    ensures { result ≡ unsigned value }
-{
-    if 0 <= value {
-        return value as u8;
-    }
-    ((value as i16) + 256) as u8
-}
 
 fn request_bytes(q: Request) -> [u8; 18]
     ensures { result ≡ request_bytes q }
 {
+    let inpix = q.inpix.to_le_bytes();
+    let inlin = q.inlin.to_le_bytes();
+    let inppl = q.inppl.to_le_bytes();
+    let outpix = q.outpix.to_le_bytes();
+    let outlin = q.outlin.to_le_bytes();
+    let yskip = q.yskip.to_le_bytes();
+    let xofs = q.xofs.0.to_le_bytes();
+    let yofso = q.yofso.to_le_bytes();
     [
         q.standard,
-        (q.inpix % 256) as u8,
-        (q.inpix / 256) as u8,
-        (q.inlin % 256) as u8,
-        (q.inlin / 256) as u8,
-        (q.inppl % 256) as u8,
-        (q.inppl / 256) as u8,
-        (q.outpix % 256) as u8,
-        (q.outpix / 256) as u8,
-        (q.outlin % 256) as u8,
-        (q.outlin / 256) as u8,
-        (q.yskip % 256) as u8,
-        (q.yskip / 256) as u8,
-        (q.xofs.0 % 256) as u8,
-        (q.xofs.0 / 256) as u8,
-        (q.yofso % 256) as u8,
-        (q.yofso / 256) as u8,
-        unsigned_byte(q.offset),
+        inpix[0],
+        inpix[1],
+        inlin[0],
+        inlin[1],
+        inppl[0],
+        inppl[1],
+        outpix[0],
+        outpix[1],
+        outlin[0],
+        outlin[1],
+        yskip[0],
+        yskip[1],
+        xofs[0],
+        xofs[1],
+        yofso[0],
+        yofso[1],
+        q.offset.cast_unsigned(),
     ]
 }
 
@@ -45,6 +42,5 @@ pub fn put_request(body: &mut [u8], q: Request)
     requires { length body.old ≡ 18 }
     ensures { body.new ≡ request_bytes q }
 {
-    let bytes = request_bytes(q);
-    store_run(body, 0, &bytes);
+    body.copy_from_slice(&request_bytes(q));
 }

@@ -16,7 +16,7 @@ use Rattle.transactions.proofs.Accepted.{accepted, registers_fit, registers_end_
 use Rattle.transactions.proofs.Accepted.{cursor_fits, colours_fit, cells_fit}
 use Rattle.writers.proofs.Cells.{cells_mean, cells_long}
 use Rattle.bus.specs.declared.state.State.{State}
-use Rattle.bus.specs.declared.state.Answer.{Answer}
+use Rattle.bus.specs.Answers.{Answer}
 use Rattle.bus.specs.States.{zero_state, known_chip, fresh_answer, stored, bus_write}
 use Rattle.bus.specs.Meaning.{AnyWrite, RegisterWrite, CursorWrite, ColourWrite, Sized, WritesMean}
 

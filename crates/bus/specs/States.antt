@@ -10,8 +10,7 @@ use Rattle.transactions.specs.Writes.{by_target, cursor_cell, colour_cell, write
 use Rattle.transactions.specs.Reads.{read_reply, byte_of}
 use Rattle.writers.specs.Cells.{cells_run}
 use Rattle.bus.specs.declared.state.State.{State}
-use Rattle.bus.specs.declared.state.Answer.{Answer}
-use Rattle.bus.specs.declared.state.ReadAnswer.{ReadAnswer}
+use Rattle.bus.specs.Answers.{Answer, ReadAnswer}
 
 -- a state with one part anew
 abbrev pub with_file : State → List ℕ → State
@@ -67,6 +66,18 @@ with_fifo s b =
       status = s.status;
       chip = s.chip;
       fifo = b;
+    }
+
+-- and with its three arrays anew
+abbrev pub with_arrays : State → List ℕ → List ℕ → List ℕ → State
+with_arrays s f t m =
+    record {
+      file = f;
+      colours = t;
+      cursor = m;
+      status = s.status;
+      chip = s.chip;
+      fifo = s.fifo;
     }
 
 -- all zero but for the chip byte

@@ -1,14 +1,14 @@
 // State: the file, the colour table, the cursor map and the three readable bytes.
 ghost use Rattle.std.specs.Prelude.{◌≡◌};
+ghost use Rattle.bus.specs.Answers.{told_answer, told_read, told_state};
 ghost use Rattle.bus.specs.States.{known_chip, zero_state, fresh_answer, with_status, with_fifo};
 ghost use Rattle.bus.specs.States.{bus_write, bus_read};
 
-use reply::{DONE, WRONG_REQUEST};
-use transactions::decode::{COLOUR_CELL, COLOURS, CURSOR, CURSOR_CELL, write_reply};
-use transactions::read::{read_reply, readable_byte};
-use writers::{write_cells, write_registers};
+use crate::arrays::write_arrays;
+use reply::Refusal;
+use transactions::read::byte_read;
 
-#[derive(Clone, Copy)]
+#[derive(Clone, Copy, Debug, PartialEq, Eq)]
 pub struct State {
     pub file: [u8; 256],
     // 256 cells of red, green and blue.
@@ -20,22 +20,23 @@ pub struct State {
     pub fifo: u8,
 }
 
-// The next state, and the reply.
-#[derive(Clone, Copy)]
+// The next state, and the reply. A struct and no Result: beside a refusal there is a state too, in
+// `fresh_answer` another one.
+#[derive(Clone, Copy, Debug, PartialEq, Eq)]
 pub struct Answer {
     pub state: State,
-    pub reply: u8,
+    pub reply: Result<(), Refusal>,
 }
 
-// The next state, the reply, and the byte that was read, 0 beside a refusal.
-#[derive(Clone, Copy)]
+// The next state, and the byte that was read.
+#[derive(Clone, Copy, Debug, PartialEq, Eq)]
 pub struct ReadAnswer {
     pub state: State,
-    pub reply: u8,
-    pub byte: u8,
+    pub byte: Result<u8, Refusal>,
 }
 
-// The chip bytes of the SAA7102 and the SAA7103.
+// The chip bytes of the SAA7102 and the SAA7103. Bytes and no enum: any byte may be asked for,
+// and may stand in a lent state (`StatesCross`).
 const SAA7102: u8 = 0x02;
 
 const SAA7103: u8 = 0x03;
@@ -43,9 +44,10 @@ const SAA7103: u8 = 0x03;
 pub fn known_chip(chip: u8) -> bool
     ensures { result ≡ known_chip chip }
 {
-    (chip == SAA7102) | (chip == SAA7103)
+    matches!(chip, SAA7102 | SAA7103)
 }
 
+#[tactic(auto, unfolding(crate::specs::States::zero_state))]
 fn zeros(chip: u8) -> State
     ensures { result ≡ zero_state chip }
 {
@@ -61,21 +63,23 @@ fn zeros(chip: u8) -> State
 
 impl State {
     // A fresh state of a chip; another chip byte than the two is refused, with a state that is all zero.
+    #[tactic(auto, unfolding(crate::specs::States::fresh_answer))]
     pub fn fresh(chip: u8) -> Answer
-        ensures { result ≡ fresh_answer chip }
+        ensures { told_answer result ≡ fresh_answer chip }
     {
         if known_chip(chip) {
             return Answer {
                 state: zeros(chip),
-                reply: DONE,
+                reply: Ok(()),
             };
         }
         Answer {
             state: zeros(0),
-            reply: WRONG_REQUEST,
+            reply: Err(Refusal::WrongRequest),
         }
     }
 
+    // This and set_fifo are two, as README and the definitions have them.
     pub fn set_status(mut self, byte: u8) -> Self
         ensures { result ≡ with_status self byte }
     {
@@ -90,52 +94,32 @@ impl State {
         self
     }
 
+    // A bus write, done on the state where it lies; a refusal leaves the state as it was.
+    pub fn apply(&mut self, transaction: &[u8]) -> Result<(), Refusal>
+        ensures { told_state self.new result ≡ bus_write self.old transaction.now }
+    {
+        write_arrays(
+            &mut self.file,
+            &mut self.colours,
+            &mut self.cursor,
+            transaction,
+        )
+    }
+
     // A bus write: the transaction goes in with the state, and the next state comes back.
     pub fn write(mut self, transaction: &[u8]) -> Answer
-        ensures { result ≡ bus_write self transaction.now }
+        ensures { told_answer result ≡ bus_write self transaction.now }
     {
-        let reply = write_reply(transaction);
-        if reply != DONE {
-            return Answer { state: self, reply };
-        }
-        let subaddress = transaction[1];
-        let bytes = &transaction[2..];
-        if subaddress == CURSOR {
-            let mut map = self.cursor;
-            write_cells(&mut map, CURSOR_CELL, bytes);
-            self.cursor = map;
-            return Answer { state: self, reply };
-        }
-        if subaddress == COLOURS {
-            let mut table = self.colours;
-            write_cells(&mut table, COLOUR_CELL, bytes);
-            self.colours = table;
-            return Answer { state: self, reply };
-        }
-        let mut file = self.file;
-        write_registers(&mut file, subaddress, bytes);
-        self.file = file;
+        let reply = self.apply(transaction);
         Answer { state: self, reply }
     }
 
     // A bus read: one of the three readable bytes, and the state as it was.
+    #[tactic(auto, unfolding(crate::specs::States::bus_read))]
     pub fn read(self, transaction: &[u8]) -> ReadAnswer
-        ensures { result ≡ bus_read self transaction.now }
+        ensures { told_read result ≡ bus_read self transaction.now }
     {
-        let reply = read_reply(transaction);
-        if reply != DONE {
-            return ReadAnswer {
-                state: self,
-                reply,
-                byte: 0,
-            };
-        }
-        let place = transaction[1];
-        let byte = readable_byte(place, self.status, self.chip, self.fifo);
-        ReadAnswer {
-            state: self,
-            reply,
-            byte,
-        }
+        let byte = byte_read(transaction, self.status, self.chip, self.fifo);
+        ReadAnswer { state: self, byte }
     }
 }

@@ -11,14 +11,14 @@ use borrow.Author.Tests.{eq-eqb, ne_eqb}
 use lib.ListN.{get_or}
 use Rattle.bits.proofs.Tests.{refusals, le_or_lt}
 use Rattle.bursts.specs.Runs.{changed}
-use Rattle.changes.specs.Places.{same_four, same_eight, Unchanged}
+use Rattle.changes.specs.Places.{same_four, same_eight, Unchanged, NextChange}
 
 module _ (from to : List ℕ) where
   pub unchanged_at : (p : ℕ) → get_or from p 0 ≡ get_or to p 0 → changed from to p ≡ false
   unfolding changed
   unchanged_at p e = rw (eq-eqb _ _ e)
 
-  pub changed_at_lem : (p : ℕ) → (get_or from p 0 ≡ get_or to p 0 → ⊥) → changed from to p ≡ true
+  changed_at_lem : (p : ℕ) → (get_or from p 0 ≡ get_or to p 0 → ⊥) → changed from to p ≡ true
   unfolding changed
   changed_at_lem p n = rw (ne_eqb _ _ n)
 
@@ -38,13 +38,13 @@ module _ (from to : List ℕ) where
       rw e at (four_at (p + 4) k.1 (d - 4) (omega arith)))
       (four_at p k.0 d) (le_or_lt 4 d)
 
-  pub eight_same : (p q : ℕ) → same_eight from to p ≡ true → p ≤ q → q < p + 8 → changed from to q ≡ false
+  eight_same : (p q : ℕ) → same_eight from to p ≡ true → p ≤ q → q < p + 8 → changed from to q ≡ false
   eight_same p q t l m =
       let e : p + (q - p) ≡ q = omega arith in
       unchanged_at q (rw e at (eight_at p t (q - p) (omega arith)))
 
   -- places passed one after the other
-  pub pass_more : (p q r : ℕ) → Unchanged from to p q → q ≤ r → r ≤ 256
+  pass_more : (p q r : ℕ) → Unchanged from to p q → q ≤ r → r ≤ 256
       → ((i : ℕ) → q ≤ i → i < r → changed from to i ≡ false) → Unchanged from to p r
   pass_more p q r u l m same =
       record {
@@ -61,3 +61,11 @@ module _ (from to : List ℕ) where
   pass_one p q u l e =
       pass_more p q (q + 1) u (omega arith) (omega arith)
       (λ i k n. let s : i ≡ q = omega arith in rw s (unchanged_at q e))
+
+  pub pass_eight : (p q : ℕ) → Unchanged from to p q → q + 8 ≤ 256 → same_eight from to q ≡ true
+      → Unchanged from to p (q + 8)
+  pass_eight p q u l t = pass_more p q (q + 8) u (omega arith) l (λ i k n. eight_same q i t k n)
+
+  -- a place behind them that differs is the next change
+  pub stop_at : (p q : ℕ) → Unchanged from to p q → (get_or from q 0 ≡ get_or to q 0 → ⊥) → NextChange from to p q
+  stop_at p q u n = record { passed = u; differs = λ l. changed_at_lem q n }

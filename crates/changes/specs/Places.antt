@@ -1,8 +1,13 @@
 -- Two register files compared, place by place.
 -- Assumes nothing.
-use Rattle.std.specs.Prelude.{◌≡◌, Bool, true, false, ◌&&◌, List, ℕ, ◌+◌, ◌<◌, ◌≤◌, eqb, get_or}
+use Rattle.std.specs.Prelude.{◌≡◌, Bool, true, false, ◌&&◌, List, ℕ, ◌+◌, ◌^◌, ◌<◌, ◌≤◌, eqb, get_or, length}
 use Rattle.bursts.specs.Runs.{changed}
 use Rattle.chip.specs.File.{file_length}
+
+-- a register file: 256 bytes
+pub record IsFile (file : List ℕ) : Type 0 where
+  pub long : length file ≡ file_length
+  pub bytes : (p : ℕ) → get_or file p 0 < 2 ^ 8
 
 -- two files agree at a place, at four from a place on, and at eight
 abbrev pub same_at : List ℕ → List ℕ → ℕ → Bool

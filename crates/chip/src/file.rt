@@ -10,8 +10,9 @@ const FIRST_CAPTION: usize = 0x67;
 const LAST_CAPTION: usize = 0x6A;
 
 // Whether a place holds a caption byte, which no list of writes touches.
+#[tactic(auto, unfolding(crate::specs::File::caption))]
 pub fn is_caption(place: usize) -> bool
     ensures { result ≡ caption place }
 {
-    (FIRST_CAPTION <= place) & (place <= LAST_CAPTION)
+    (FIRST_CAPTION..=LAST_CAPTION).contains(&place)
 }

@@ -3,7 +3,7 @@ ghost use Rattle.std.specs.Prelude.{◌≡◌};
 ghost use Rattle.chip.specs.Map.{masks};
 
 // specs/Map.antt has the bits' names.
-const MASKS: [u8; 256] = [
+static MASKS: [u8; 256] = [
     0x00, // 00h
     0x00, // 01h
     0x00, // 02h
@@ -262,9 +262,9 @@ const MASKS: [u8; 256] = [
     0x00, // FFh
 ];
 
-// The whole table, for a caller that looks up many places.
-pub fn mask_table() -> [u8; 256]
-    ensures { result ≡ masks }
+// The whole table, lent.
+pub fn mask_table() -> &'static [u8; 256]
+    ensures { result.now ≡ masks }
 {
-    MASKS
+    &MASKS
 }

@@ -11,6 +11,7 @@ const ROWS: usize = 32;
 const ROW: usize = 8;
 
 // The eight bytes of a row; the empty part at the map's front for a row above 31 or a map of another length.
+// A part and no Option: `row_start` and `row_count` promise that empty part.
 pub fn cursor_row(map: &[u8], row: usize) -> &[u8]
     ensures { PartIs map.entry (row_start map.now row)
         (row_count map.now row) result }

@@ -1,6 +1,6 @@
 -- What a record of each kind does, in the parts of a state.
 -- Assumes nothing.
-use mathlib.Core.Path.{◌≡◌, refl, ap, ◌∙◌}
+use mathlib.Core.Path.{◌≡◌, refl, sym, ap, ◌∙◌}
 use mathlib.Core.Bool.{false}
 use mathlib.Core.List.{List, [], ◌∷◌}
 use Prim.Native.Nat.{ℕ, suc, ◌+◌, ◌<◌, ◌≤◌}
@@ -8,10 +8,11 @@ use native.Mathlib.Decide.{ℕ_discrete}
 use native.Mathlib.Nat.{mod_self, div_self}
 use native.Mathlib.Omega.{arith}
 use borrow.Author.Tests.{eq-eqb, ne_eqb, lt-ltb, le-ltb}
-use lib.ListN.{length, get_or, set}
+use lib.ListN.{length, get_or, set, take}
+use lib.Seq.{take-length}
 use Rattle.bits.specs.Merge.{merge}
 use Rattle.bits.specs.Run.{merge_run}
-use Rattle.chip.specs.Map.{masks, masks_from}
+use Rattle.chip.specs.Map.{masks}
 use Rattle.reply.specs.Reply.{lowest}
 use Rattle.reply.proofs.Lowest.{all_below, lowest_below}
 use Rattle.transactions.specs.Writes.{write_address, cursor_at, colours_at, from_start, cells_pass, passes}
@@ -47,10 +48,17 @@ last_kind kind body b one two three four =
     by f (yes e) = e
     by f (no n) = absurd (f n)
 
+-- the outcome of a record in code, from what the record of its number does
+pub did : (s : State) (kind k : ℕ) (body : List ℕ) → kind ≡ k → (reply : ℕ) (file' colours' cursor' : List ℕ)
+    → Does k body s.file s.colours s.cursor reply file' colours' cursor'
+    → record { state = in_parts file' colours' cursor' s.status s.chip s.fifo; reply = reply } ≡ outcome s kind body
+did s kind k body e reply file' colours' cursor' d =
+    sym (ap (λ n. outcome s n body) e ∙ d.outcome_is s.status s.chip s.fifo)
+
 -- ---- 01
 
 -- the writer's reply is one digit
-reply_digit : (file : List ℕ) (q : Request) → write_reply file q < 10
+pub reply_digit : (file : List ℕ) (q : Request) → write_reply file q < 10
 unfolding write_reply write_tests request_tests all_below
 reply_digit file q = lowest_below 10 (write_tests file q) (omega arith) tt
 
@@ -62,11 +70,6 @@ picture_does body file colours cursor =
     record { outcome_is = λ status chip fifo. refl; digit = reply_digit file (request_of body) }
 
 -- ---- 02
-
--- every place has a mask
-pub masks_long : length masks ≡ 256
-unfolding masks masks_from
-masks_long = refl
 
 pub register_none : (body file colours cursor : List ℕ) → 0xFE ≤ get_or body 0 0
     → Does 0x02 body file colours cursor 0 file colours cursor
@@ -97,13 +100,17 @@ register_does (place ∷ byte ∷ more ∷ body) file colours cursor n l = absur
 -- ---- 03 and 04
 
 -- one cell of any width, with its start cell before it
-pub cell_fits : (width : ℕ) (body : List ℕ) → 0 < width → length body ≡ suc width → get_or body 0 0 < 256
+pub cell_fits : (width : ℕ) (body : List ℕ) → 0 < width → length body ≡ width + 1 → get_or body 0 0 < 256
     → cells_pass width body ≡ false
 unfolding cells_pass from_start
 cell_fits width [] w n l = absurd (omega arith)
 cell_fits width (cell ∷ bytes) w n l =
     let e : length bytes ≡ width = omega arith in
     rw (e, mod_self width, div_self w, le-ltb 256 (cell + 1) (omega arith))
+
+-- which is as many bytes of a body as it has
+pub whole_cell : (width : ℕ) (body : List ℕ) → length body ≡ width + 1 → take (width + 1) body ≡ body
+whole_cell width body n = rw (← n) (take-length body)
 
 -- a write whose run does not pass its end is done
 write_done : (s : State) (subaddress : ℕ) (body : List ℕ) → passes subaddress body ≡ false

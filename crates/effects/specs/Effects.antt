@@ -5,7 +5,7 @@ use Rattle.chip.specs.File.{registers_end}
 use Rattle.reply.specs.Reply.{done}
 use Rattle.transactions.specs.Writes.{write_address, cursor_at, colours_at}
 use Rattle.bus.specs.declared.state.State.{State}
-use Rattle.bus.specs.declared.state.Answer.{Answer}
+use Rattle.bus.specs.Answers.{Answer}
 use Rattle.bus.specs.States.{with_file, bus_write}
 use Rattle.picture.specs.Writing.{write_reply, file_after}
 use Rattle.lines.specs.Lines.{added_byte}

@@ -1,4 +1,4 @@
--- What a record does to a lent file, colour table and cursor map: what the leaves of a run promise.
+-- What a record does to the parts of a state: the file, the colour table and the cursor map.
 -- Assumes nothing.
 use Rattle.std.specs.Prelude.{◌≡◌, List, ℕ, ◌<◌, length}
 use Rattle.bus.specs.declared.state.State.{State}
@@ -9,12 +9,6 @@ use Rattle.effects.specs.Effects.{outcome}
 abbrev pub in_parts : List ℕ → List ℕ → List ℕ → ℕ → ℕ → ℕ → State
 in_parts file colours cursor status chip fifo =
     record { file = file; colours = colours; cursor = cursor; status = status; chip = chip; fifo = fifo }
-
--- the lent parts have a state's lengths
-pub record Lent (file colours cursor : List ℕ) : Type 0 where
-  pub file_long : length file ≡ 256
-  pub colours_long : length colours ≡ 768
-  pub cursor_long : length cursor ≡ 256
 
 -- a body of a known kind
 pub record Body (kind : ℕ) (body : List ℕ) : Type 0 where

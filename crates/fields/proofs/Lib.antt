@@ -3,4 +3,3 @@ pub mod Putting
 pub mod Lists
 pub mod Fitting
 pub mod Joining
-pub mod Parts

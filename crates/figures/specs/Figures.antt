@@ -10,8 +10,7 @@ use Rattle.scaler.specs.Answer.{checked}
 use Rattle.scaler.specs.declared.request.Fields.{Fields}
 use Rattle.scaler.specs.declared.request.Request.{Request}
 use Rattle.picture.specs.Writing.{file_after}
-use Rattle.plan.specs.Plan.{list_for, plan_answer}
-use Rattle.plan.specs.declared.plan.Planned.{Planned}
+use Rattle.plan.specs.Plan.{Planned, list_for, plan_answer}
 
 -- the file to begin with
 abbrev pub zeros : List ℕ

@@ -6,11 +6,9 @@ use mathlib.Core.Path.{◌≡◌, refl, sym, ap, ◌∙◌}
 use native.Mathlib.Omega.{arith}
 use Rattle.reply.specs.Reply.{lowest, rising}
 use Rattle.reply.proofs.Lowest.{lowest_front, lowest_back}
-use Rattle.scaler.specs.Limits.{lines_for, wrong_source, output_holds, request_tests, request_reply}
+use Rattle.scaler.specs.Limits.{wrong_source, output_holds, request_tests, request_reply}
 use Rattle.scaler.specs.declared.request.Request.{Request}
-use Rattle.steps.specs.Parts.{vertical_for}
-use Rattle.limits.specs.Replies.{limits_reply, scale_reply, scaled_for}
-use Rattle.limits.specs.declared.scale.Scaled.{Scaled}
+use Rattle.limits.specs.Replies.{limits_reply, scale_reply, Scaled, scaled_for}
 
 -- ---- the first tests decide where one of them applies, and else the others
 
@@ -26,11 +24,6 @@ by_scale q e = lowest_back 0 2 (request_tests q) tt e
 pub scaled_reply : (q : Request) (s : Scaled) → s ≡ scaled_for q → limits_reply q ≡ 0 → s.reply ≡ request_reply q
 unfolding scaled_for
 scaled_reply q s e l = ap (λ x. x.reply) e ∙ sym (by_scale q l)
-
-pub scaled_parts : (q : Request) (s : Scaled) → s ≡ scaled_for q
-    → (s.vertical ≡ vertical_for q) × (s.lines ≡ lines_for q)
-unfolding scaled_for
-scaled_parts q s e = (ap (λ x. x.vertical) e, ap (λ x. x.lines) e)
 
 -- ---- where neither of the first two applies, the output limits hold
 

@@ -3,3 +3,4 @@
 
 pub mod refusal;
 pub mod scale;
+pub mod scaled;

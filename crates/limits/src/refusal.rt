@@ -1,14 +1,12 @@
-// A test for each refusal of a request, by its number in document 01.
+// The first step: a test for 4 and one for 5, the refusals' numbers in document 01.
 ghost use Rattle.std.specs.Prelude.{◌≡◌};
 ghost use Rattle.scaler.specs.Limits.{wrong_source, pixels_hold, lines_hold, offset_holds, output_holds};
-ghost use Rattle.scaler.specs.Limits.{numbers_pass, weights_pass, num_for, den_for};
-ghost use Rattle.steps.specs.Parts.{vertical_for};
+ghost use Rattle.reply.specs.Refusals.{reply_of};
 ghost use Rattle.limits.specs.Replies.{limits_reply};
 
-use reply::{DONE, OUTPUT_LIMIT, WRONG_REQUEST};
+use reply::Refusal;
 use scaler::request::Request;
 use steps::standard::{FIFTY, by_standard};
-use steps::vertical::Vertical;
 
 const LEAST_INPIX: u16 = 2;
 
@@ -16,14 +14,8 @@ const MOST_INPIX: u16 = 800;
 
 const MOST_INLIN: u16 = 600;
 
-// The largest number of ten bits, of eleven with 1 more, and of twelve.
-const TEN_BITS: u16 = 1023;
-
-const MOST_INPPL: u16 = 2048;
-
-const TWELVE_BITS: u16 = 4095;
-
 // 4: the standard, and the source picture.
+#[tactic(auto, unfolding(scaler::specs::Limits::wrong_source))]
 fn wrong_source(q: Request) -> bool
     ensures { result ≡ wrong_source q }
 {
@@ -34,28 +26,32 @@ fn wrong_source(q: Request) -> bool
 }
 
 // 5: the limits of the output, in pixels, in lines and in the offset.
+#[tactic(auto, unfolding(scaler::specs::Limits::pixels_hold))]
 fn pixels_hold(standard: u8, inpix: u16, outpix: u16) -> bool
     ensures { result ≡ pixels_hold standard inpix outpix }
 {
-    let most = by_standard(standard, 710, 702);
+    let most: u16 = by_standard(standard, 710, 702);
     let twice = 2 * (outpix as u32);
-    ((1 <= outpix) & ((outpix as u32) <= most)) & ((outpix <= inpix) & ((inpix as u32) <= twice))
+    ((1 <= outpix) & (outpix <= most)) & ((outpix <= inpix) & ((inpix as u32) <= twice))
 }
 
+#[tactic(auto, unfolding(scaler::specs::Limits::lines_hold))]
 fn lines_hold(standard: u8, inlin: u16, outlin: u16) -> bool
     ensures { result ≡ lines_hold standard inlin outlin }
 {
-    let most = by_standard(standard, 240, 287);
+    let most: u16 = by_standard(standard, 240, 287);
     let lines = (inlin as u32) + 2;
-    ((1 <= outlin) & ((outlin as u32) <= most)) & (lines <= 4 * (outlin as u32))
+    ((1 <= outlin) & (outlin <= most)) & (lines <= 4 * (outlin as u32))
 }
 
+#[tactic(auto, unfolding(scaler::specs::Limits::offset_holds))]
 fn offset_holds(offset: i8) -> bool
     ensures { result ≡ offset_holds offset }
 {
     (-8 <= offset) & (offset <= 8)
 }
 
+#[tactic(auto, unfolding(scaler::specs::Limits::output_holds))]
 fn output_holds(q: Request) -> bool
     ensures { result ≡ output_holds q }
 {
@@ -65,39 +61,16 @@ fn output_holds(q: Request) -> bool
     pixels & (lines & offset)
 }
 
-// The reply by these two, which need no number of the scaler.
-pub fn limits_reply(q: Request) -> u8
-    ensures { result ≡ limits_reply q }
+// The answer by these two, which need no number of the scaler.
+#[tactic(auto, unfolding(crate::specs::Replies::limits_reply, scaler::specs::Limits::request_tests, reply::specs::Reply::lowest))]
+pub fn limits_reply(q: Request) -> Result<(), Refusal>
+    ensures { reply_of result ≡ limits_reply q }
 {
     if wrong_source(q) {
-        return WRONG_REQUEST;
+        return Err(Refusal::WrongRequest);
     }
     if !output_holds(q) {
-        return OUTPUT_LIMIT;
+        return Err(Refusal::OutputLimit);
     }
-    DONE
-}
-
-// 6: numbers that do not fit their fields. HLEN has eleven bits, so that InPpl is at most 2,048.
-pub fn numbers_pass(q: Request, v: Vertical) -> bool
-    requires { v ≡ vertical_for q }
-    ensures { result ≡ numbers_pass q }
-{
-    let yofse = (q.yofso as u32) + (v.late as u32);
-    let offsets = (TEN_BITS < q.xofs.0) | ((TEN_BITS < q.yofso) | ((TEN_BITS as u32) < yofse));
-    let steps = (TWELVE_BITS < q.yskip) | ((TWELVE_BITS as u64) < v.yinc);
-    offsets | ((MOST_INPPL < q.inppl) | steps)
-}
-
-// 8: weights below 0 or over 4,095.
-pub fn weights_pass(q: Request, v: Vertical) -> bool
-    requires { v ≡ vertical_for q }
-    ensures { result ≡ weights_pass (num_for q) (den_for q) q.yskip }
-{
-    let yskip = q.yskip as u64;
-    let most = TWELVE_BITS as u64;
-    if v.top < yskip {
-        return true;
-    }
-    (most < v.yiwgto) | (most < (v.top - yskip) / 2)
+    Ok(())
 }

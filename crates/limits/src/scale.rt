@@ -1,50 +1,21 @@
-// scale: what the numbers of a request come from, and the reply that they decide.
+// scale: the second step, which hands on what the numbers of a request come from.
 ghost use Rattle.std.specs.Prelude.{◌≡◌};
 ghost use Rattle.reply.specs.Reply.{done};
-ghost use Rattle.scaler.specs.Limits.{lines_for};
-ghost use Rattle.steps.specs.Parts.{vertical_for};
-ghost use Rattle.limits.specs.Replies.{limits_reply, scale_reply, scaled_for};
+ghost use Rattle.limits.specs.Replies.{limits_reply, scaled_for};
+ghost use Rattle.limits.specs.Told.{told_scale, OfRequest};
 
-use crate::refusal::{numbers_pass, weights_pass};
-use reply::{DONE, TOO_FAST, TOO_LARGE, WRONG_WEIGHT};
+use crate::scaled::Scaled;
+use reply::Refusal;
 use scaler::request::Request;
-use steps::clock::{clock_passes, source_lines};
-use steps::vertical::{Vertical, vertical_part};
 
-// The reply, 6, 7, 8 or 0, with the vertical part and L.
-#[derive(Clone, Copy)]
-pub struct Scaled {
-    pub reply: u8,
-    pub vertical: Vertical,
-    pub lines: u32,
-}
-
-fn scale_reply(q: Request, v: Vertical, lines: u32) -> u8
-    requires { (v ≡ vertical_for q) × (lines ≡ lines_for q) }
-    ensures { result ≡ scale_reply q }
-{
-    if numbers_pass(q, v) {
-        return TOO_LARGE;
-    }
-    if clock_passes(q.standard, q.inppl, lines) {
-        return TOO_FAST;
-    }
-    if weights_pass(q, v) {
-        return WRONG_WEIGHT;
-    }
-    DONE
-}
-
-pub fn scale(q: Request) -> Scaled
+// Compiled into its caller: a call, and the answer through memory, take 100 instructions more.
+#[inline(always)]
+pub fn scale(q: Request) -> Result<Scaled, Refusal>
     requires { limits_reply q ≡ done }
-    ensures { result ≡ scaled_for q }
+    ensures told { told_scale q result ≡ scaled_for q }
+    ensures of { OfRequest q result }
 {
-    let vertical = vertical_part(q.outlin, q.inlin, q.yskip);
-    let lines = source_lines(q.standard, q.inlin, q.outlin);
-    let reply = scale_reply(q, vertical, lines);
-    Scaled {
-        reply,
-        vertical,
-        lines,
-    }
+    let scaled = Scaled::new(q);
+    scaled.scale_reply()?;
+    Ok(scaled)
 }

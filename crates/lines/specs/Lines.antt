@@ -1,6 +1,6 @@
 -- Document 01, "Sessions": the line that a record prints.
 -- Assumes nothing.
-use Rattle.std.specs.Prelude.{cond, List, [], ◌∷◌, ◌++◌, ℕ, ◌+◌, ◌-◌, ◌/◌, ◌%◌, ltb}
+use Rattle.std.specs.Prelude.{cond, List, [], ◌∷◌, ◌++◌, ℕ, ◌+◌, ◌-◌, ◌/◌, ◌%◌, Option, None, Some, ltb}
 
 -- the character of a digit: 0 to 9, then a to f in lower case
 unfoldable pub glyph : ℕ → ℕ
@@ -19,6 +19,11 @@ line_end = 0x0A
 -- a space and a byte, which a line may add
 unfoldable pub added_byte : ℕ → List ℕ
 added_byte b = space ∷ hex b
+
+-- what a line adds: the byte that is shown, if one is
+abbrev pub added : Option ℕ → List ℕ
+added None = []
+added (Some b) = added_byte b
 
 -- a line: kind, a space, the reply, what is added, and a line end; in decimal the reply is one digit, since
 -- every reply of a session is below 10

@@ -1,5 +1,4 @@
 // A picture written into a lent register file.
 #![tactic(auto)]
 
-pub mod values;
 pub mod write;

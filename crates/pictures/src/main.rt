@@ -1,142 +1,116 @@
 // Pictures: for each request the check's reply and the fields' numbers, then the reply to writing it into a
 // file of 256 zero bytes, and what that file reads as. The requests are figures 1 to 6 of document 01 and
-// those that show the other replies. Reply 8 is not among them: it is proved that none gives it.
+// those that show the other replies. Reply 8 is not among them: it is proved that none gives it. After a write
+// that fails the program stops and says nothing: what is missing is seen where its output is compared.
 #![tactic(auto)]
-
-ghost use Rattle.std.specs.Prelude.{◌≡◌, nat_abs};
 
 use checks::check;
 use picture::write::write_picture;
 use readback::read_picture;
-use reply::DONE;
-use report::{hex_byte, number, number_8, word};
+use reply::reply_of;
+use report::Hex;
+use report::examples::{FIGURE_1, FIGURE_4};
 use scaler::request::{Fields, PixelClocks, Request};
+use std::io;
 
-fn number_16(rt: &impl Print, name: &[u8], x: u16) {
-    number(rt, name, x as u64);
+// What stands beside a refusal to read a file.
+const NO_REQUEST: Request = Request {
+    standard: 0,
+    inpix: 0,
+    inlin: 0,
+    inppl: 0,
+    outpix: 0,
+    outlin: 0,
+    offset: 0,
+    yskip: 0,
+    xofs: PixelClocks(0),
+    yofso: 0,
+};
+
+fn show_request(rt: &impl Print, request: Request) -> io::Result<()> {
+    let Request {
+        standard,
+        inpix,
+        inlin,
+        inppl,
+        outpix,
+        outlin,
+        offset,
+        yskip,
+        xofs: PixelClocks(xofs),
+        yofso,
+    } = request;
+    print!(rt;
+        " standard {standard} InPix {inpix} InLin {inlin} InPpl {inppl} OutPix {outpix} OutLin {outlin}"
+    )?;
+    print!(rt; " offset {offset} YSKIP {yskip} XOFS {xofs} YOFSO {yofso}")
 }
 
-// How far a number is from 0. Eight bits do not hold it for -128, so it is widened first.
-fn distance(x: i8) -> u64
-    ensures { result ≡ nat_abs x }
-{
-    let wide = x as i64;
-    if wide < 0 {
-        return (-wide) as u64;
-    }
-    wide as u64
-}
-
-fn signed(rt: &impl Print, name: &[u8], x: i8) {
-    word(rt, name);
-    if x < 0 {
-        word(rt, b"-");
-    }
-    number(rt, b"", distance(x));
-}
-
-fn show_request(rt: &impl Print, q: Request) {
-    number_8(rt, b" standard ", q.standard);
-    number_16(rt, b" InPix ", q.inpix);
-    number_16(rt, b" InLin ", q.inlin);
-    number_16(rt, b" InPpl ", q.inppl);
-    number_16(rt, b" OutPix ", q.outpix);
-    number_16(rt, b" OutLin ", q.outlin);
-    signed(rt, b" offset ", q.offset);
-    number_16(rt, b" YSKIP ", q.yskip);
-    number_16(rt, b" XOFS ", q.xofs.0);
-    number_16(rt, b" YOFSO ", q.yofso);
-}
-
-fn show_fields(rt: &impl Print, f: Fields) {
-    number_8(rt, b"  FISE ", f.fise);
-    number_16(rt, b" ADWHS ", f.adwhs.0);
-    number_16(rt, b" ADWHE ", f.adwhe.0);
-    number_16(rt, b" FAL ", f.fal);
-    number_16(rt, b" LAL ", f.lal);
-    number(rt, b" PCL ", f.pcl as u64);
-    number_16(rt, b" XOFS ", f.xofs.0);
-    number_16(rt, b" XPIX ", f.xpix);
-    number_16(rt, b" YOFSO ", f.yofso);
-    number_16(rt, b" YOFSE ", f.yofse);
-    number_16(rt, b"\n  YPIX ", f.ypix);
-    number_16(rt, b" HLEN ", f.hlen.0);
-    number_16(rt, b" XINC ", f.xinc);
-    number_16(rt, b" YINC ", f.yinc);
-    number_16(rt, b" YIWGTO ", f.yiwgto);
-    number_16(rt, b" YIWGTE ", f.yiwgte);
-    number_16(rt, b" YSKIP ", f.yskip);
-    word(rt, b"\n");
-}
-
-// Whether two requests agree in all ten numbers.
-fn same_request(a: Request, b: Request) -> bool {
-    let source = (a.inpix == b.inpix) & ((a.inlin == b.inlin) & (a.inppl == b.inppl));
-    let output = (a.outpix == b.outpix) & ((a.outlin == b.outlin) & (a.offset == b.offset));
-    let start = (a.xofs.0 == b.xofs.0) & (a.yofso == b.yofso);
-    (a.standard == b.standard) & ((a.yskip == b.yskip) & (source & (output & start)))
+fn show_fields(rt: &impl Print, f: Fields) -> io::Result<()> {
+    print!(rt; "  FISE {} ADWHS {} ADWHE {}", f.fise, f.adwhs.0, f.adwhe.0)?;
+    print!(rt;
+        " FAL {} LAL {} PCL {} XOFS {}",
+        f.fal, f.lal, f.pcl, f.xofs.0
+    )?;
+    println!(rt; " XPIX {} YOFSO {} YOFSE {}", f.xpix, f.yofso, f.yofse)?;
+    print!(rt;
+        "  YPIX {} HLEN {} XINC {} YINC {}",
+        f.ypix, f.hlen.0, f.xinc, f.yinc
+    )?;
+    println!(rt;
+        " YIWGTO {} YIWGTE {} YSKIP {}",
+        f.yiwgto, f.yiwgte, f.yskip
+    )
 }
 
 // What a file reads as: the request that was wanted, or another with its numbers, all 0 beside a refusal.
-fn show_read(rt: &impl Print, file: &[u8], wanted: Request) {
-    let found = read_picture(file);
-    number_8(rt, b"  read: ", found.reply);
-    let request = found.request;
-    if same_request(wanted, request) {
-        word(rt, b", same request\n");
-        return;
+fn show_read(rt: &impl Print, file: &[u8], wanted: Request) -> io::Result<()> {
+    let (reply, request) = match read_picture(file) {
+        Ok(request) => (0, request),
+        Err(refusal) => (u8::from(refusal), NO_REQUEST),
+    };
+    print!(rt; "  read: {reply},")?;
+    if request == wanted {
+        return println!(rt; " same request");
     }
-    word(rt, b",");
-    show_request(rt, request);
-    word(rt, b"\n");
+    show_request(rt, request)?;
+    println!(rt;)
 }
 
-fn show_file(rt: &impl Print, file: &mut [u8], q: Request) {
-    let reply = write_picture(file, q);
-    number_8(rt, b"  write: ", reply);
-    word(rt, b"\n");
-    show_read(rt, file, q);
+fn show_file(rt: &impl Print, file: &mut [u8], request: Request) -> io::Result<()> {
+    let reply = reply_of(write_picture(file, request));
+    println!(rt; "  write: {reply}")?;
+    show_read(rt, file, request)
 }
 
-fn show(rt: &impl Print, name: &[u8], q: Request) {
-    word(rt, name);
-    word(rt, b"\n ");
-    show_request(rt, q);
-    let answer = check(q);
-    number_8(rt, b": ", answer.reply);
-    word(rt, b"\n");
-    if answer.reply == DONE {
-        let fields = answer.fields;
-        show_fields(rt, fields);
+fn show(rt: &impl Print, name: &str, request: Request) -> io::Result<()> {
+    print!(rt; "{name}\n ")?;
+    show_request(rt, request)?;
+    match check(request) {
+        Ok(fields) => {
+            println!(rt; ": 0")?;
+            show_fields(rt, fields)?;
+        }
+        Err(refusal) => println!(rt; ": {}", u8::from(refusal))?,
     }
-    let mut file = [0u8; 256];
-    show_file(rt, &mut file, q);
+    show_file(rt, &mut [0; 256], request)
 }
 
 // PCL's three bytes in the file, the lowest first.
-fn show_clock(rt: &impl Print, q: Request) {
-    let mut file = [0u8; 256];
-    write_picture(&mut file, q);
-    word(rt, b"  places 81h to 83h:");
-    hex_byte(rt, file[0x81]);
-    hex_byte(rt, file[0x82]);
-    hex_byte(rt, file[0x83]);
-    word(rt, b"\n");
+fn show_clock(rt: &impl Print, request: Request) -> io::Result<()> {
+    let mut file = [0; 256];
+    let _ = write_picture(&mut file, request);
+    println!(rt; "  places 81h to 83h:{}", Hex(&file[0x81..0x84]))
 }
 
 // 640 x 480 at 60 Hz.
 fn vga_60(inppl: u16, outlin: u16, offset: i8, yskip: u16) -> Request {
     Request {
-        standard: 0,
-        inpix: 640,
-        inlin: 480,
         inppl,
-        outpix: 640,
         outlin,
         offset,
         yskip,
-        xofs: PixelClocks(80),
-        yofso: 66,
+        ..FIGURE_1
     }
 }
 
@@ -144,92 +118,60 @@ fn vga_60(inppl: u16, outlin: u16, offset: i8, yskip: u16) -> Request {
 fn vga_50(outlin: u16) -> Request {
     Request {
         standard: 1,
-        inpix: 640,
-        inlin: 480,
-        inppl: 800,
-        outpix: 640,
         outlin,
-        offset: 0,
         yskip: 4095,
-        xofs: PixelClocks(80),
-        yofso: 66,
-    }
-}
-
-// 800 x 600 at 50 Hz, with the whole of the vertical filter.
-fn svga_50() -> Request {
-    Request {
-        standard: 1,
-        inpix: 800,
-        inlin: 600,
-        inppl: 1024,
-        outpix: 640,
-        outlin: 255,
-        offset: 0,
-        yskip: 4095,
-        xofs: PixelClocks(200),
-        yofso: 89,
+        ..FIGURE_1
     }
 }
 
 // 640 x 240 at 60 Hz: so few lines that the pixel clock is slow enough for long ones.
 fn long_lines(inppl: u16) -> Request {
     Request {
-        standard: 0,
-        inpix: 640,
         inlin: 240,
         inppl,
-        outpix: 640,
-        outlin: 216,
-        offset: 0,
-        yskip: 0,
-        xofs: PixelClocks(80),
-        yofso: 66,
+        ..FIGURE_1
     }
 }
 
-fn figure_1() -> Request {
-    vga_60(800, 216, 0, 0)
-}
-
 // The second request of figure 5 is refused with 7, that of figure 6 with 6.
-fn figures(rt: &impl Print) {
-    show(rt, b"figure 1", figure_1());
-    show_clock(rt, figure_1());
-    show(rt, b"figure 2", vga_60(800, 220, 0, 0));
-    show(rt, b"figure 3", vga_60(800, 212, 0, 2048));
-    show(rt, b"figure 4", svga_50());
-    show(rt, b"figure 5, InPpl 1283", vga_60(1283, 216, 0, 0));
-    show(rt, b"figure 5, InPpl 1284", vga_60(1284, 216, 0, 0));
-    show(rt, b"figure 6, OutLin 240", vga_50(240));
-    show(rt, b"figure 6, OutLin 241", vga_50(241));
+fn figures(rt: &impl Print) -> io::Result<()> {
+    show(rt, "figure 1", FIGURE_1)?;
+    show_clock(rt, FIGURE_1)?;
+    show(rt, "figure 2", vga_60(800, 220, 0, 0))?;
+    show(rt, "figure 3", vga_60(800, 212, 0, 2048))?;
+    show(rt, "figure 4", FIGURE_4)?;
+    show(rt, "figure 5, InPpl 1283", vga_60(1283, 216, 0, 0))?;
+    show(rt, "figure 5, InPpl 1284", vga_60(1284, 216, 0, 0))?;
+    show(rt, "figure 6, OutLin 240", vga_50(240))?;
+    show(rt, "figure 6, OutLin 241", vga_50(241))
 }
 
 // The refusals 4, 5, and 6 for HLEN's eleven bits: of each pair, which differ in one number, the second.
-fn limits(rt: &impl Print) {
-    show(rt, b"figure 1, InPpl 720", vga_60(720, 216, 0, 0));
-    show(rt, b"figure 1, InPpl 719", vga_60(719, 216, 0, 0));
-    show(rt, b"figure 1, offset -8", vga_60(800, 216, -8, 0));
-    show(rt, b"figure 1, offset 9", vga_60(800, 216, 9, 0));
-    show(rt, b"few lines, InPpl 2048", long_lines(2048));
-    show(rt, b"few lines, InPpl 2049", long_lines(2049));
+fn limits(rt: &impl Print) -> io::Result<()> {
+    show(rt, "figure 1, InPpl 720", vga_60(720, 216, 0, 0))?;
+    show(rt, "figure 1, InPpl 719", vga_60(719, 216, 0, 0))?;
+    show(rt, "figure 1, offset -8", vga_60(800, 216, -8, 0))?;
+    show(rt, "figure 1, offset 9", vga_60(800, 216, 9, 0))?;
+    show(rt, "few lines, InPpl 2048", long_lines(2048))?;
+    show(rt, "few lines, InPpl 2049", long_lines(2049))
 }
 
 // The refusals 1 and 9, which the file decides.
-fn files(rt: &impl Print) {
-    let mut short = [0u8; 255];
-    word(rt, b"figure 1 and a file of 255 bytes\n");
-    show_file(rt, &mut short, figure_1());
-    let mut long = [0u8; 257];
-    word(rt, b"figure 1 and a file of 257 bytes\n");
-    show_file(rt, &mut long, figure_1());
-    let zeros = [0u8; 256];
-    word(rt, b"a file of 256 zero bytes\n");
-    show_read(rt, &zeros, figure_1());
+fn files(rt: &impl Print) -> io::Result<()> {
+    println!(rt; "figure 1 and a file of 255 bytes")?;
+    show_file(rt, &mut [0; 255], FIGURE_1)?;
+    println!(rt; "figure 1 and a file of 257 bytes")?;
+    show_file(rt, &mut [0; 257], FIGURE_1)?;
+    println!(rt; "a file of 256 zero bytes")?;
+    show_read(rt, &[0; 256], FIGURE_1)
+}
+
+fn pictures(rt: &impl Print) -> io::Result<()> {
+    figures(rt)?;
+    limits(rt)?;
+    files(rt)
 }
 
 fn main(rt: HostRuntime) {
-    figures(&rt);
-    limits(&rt);
-    files(&rt);
+    let _ = pictures(&rt);
 }

@@ -3,12 +3,13 @@
 use mathlib.Core.Path.{◌≡◌, refl, sym, ◌∙◌, ap}
 use mathlib.Core.Bool.{Bool, true, false, cond}
 use Prim.Native.Nat.{ℕ, ◌+◌, ◌-◌, ◌*◌, ◌/◌, ◌%◌, ◌^◌, ◌<◌, ◌≤◌}
-use native.Mathlib.Nat.{one-mul, lt_of_lt_of_le}
+use native.Mathlib.Nat.{lt_of_lt_of_le}
 use native.Mathlib.Decide.{dec_lt}
 use native.Mathlib.Omega.{arith}
 use borrow.Author.Tests.{le-leb, lt-leb, lt-ltb, le-ltb}
+use lib.Bits.{bit_and, and_mask}
 use lib.Dec.{eqb}
-use lib.Pow.{shl_exact, shl_lt, ones_lt, pow_mono}
+use lib.Pow.{shl_lt, ones_lt, pow_mono}
 use Rattle.bits.specs.Bit.{bit, has}
 use Rattle.bits.specs.Merge.{merge}
 use Rattle.bits.proofs.Digits.{bit_ext, bit_shr, bit_mod, bit_high, bit_shl_low, bit_shl, bit_ones}
@@ -18,13 +19,11 @@ use Rattle.bits.proofs.Tests.{tests, from_true}
 use Rattle.pieces.specs.Piece.{within, bits_at, with_bits}
 use Rattle.pieces.proofs.Bytes.{with_bits_lt, with_bits_bit}
 
-pub shifted_one : (w : ℕ) → w ≤ 8 → 1 * 2 ^ w % 4294967296 ≡ 2 ^ w
-shifted_one w l = shl_exact 1 w 32 (omega arith) (omega arith) ∙ one-mul (2 ^ w)
-
 -- the bits of a piece, moved down
-pub bits_at_lem : (x p w : ℕ) → bits_at x p w ≡ x / 2 ^ p % 2 ^ w
+pub masked_bits_at : (x p w : ℕ) → bit_and (x / 2 ^ p) (2 ^ w - 1) ≡ bits_at x p w
 unfolding bits_at
-bits_at_lem x p w = number_cong w _ _ (λ i l. sym (bit_shr x p i)) ∙ number_bit w (x / 2 ^ p)
+masked_bits_at x p w =
+    and_mask (x / 2 ^ p) w ∙ sym (number_cong w _ _ (λ i l. sym (bit_shr x p i)) ∙ number_bit w (x / 2 ^ p))
 
 -- the ones of a piece are the bits within it
 ones_bit : (p w j : ℕ) → bit ((2 ^ w - 1) * 2 ^ p) j ≡ cond (within p w j) 1 0

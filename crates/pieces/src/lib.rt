@@ -15,14 +15,17 @@ fn ones(width: u32) -> u32
 }
 
 // The number in `width` bits of a byte, from bit `position` up.
+#[tactic(auto, using(crate::proofs::Shifts::masked_bits_at))]
 pub fn get_piece(byte: u8, position: u32, width: u32) -> u32
     requires { position + width ≤ 8 }
     ensures { result ≡ bits_at byte position width }
 {
-    ((byte as u32) >> position) & ones(width)
+    (u32::from(byte) >> position) & ones(width)
 }
 
-// The byte with the low bits of a number there.
+// The byte with the low bits of a number there. Of each number the low byte is meant: `% 256` and a cast say so,
+// where a conversion that may fail would have to be answered.
+#[tactic(auto, using(crate::proofs::Shifts::merge_piece))]
 pub fn put_piece(byte: u8, position: u32, width: u32, value: u32) -> u8
     requires { position + width ≤ 8 }
     ensures { result ≡ with_bits byte position width value }

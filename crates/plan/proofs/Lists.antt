@@ -1,12 +1,14 @@
 -- Our list and the runs that were found: its bytes and bursts, and the headings with their data.
 -- Assumes nothing.
 use mathlib.Core.Path.{◌≡◌, refl, sym, ap, ◌∙◌}
-use mathlib.Core.Bool.{Bool, false, false≢true}
+use mathlib.Core.Bool.{Bool, true, false, false≢true}
 use mathlib.Core.List.{List, [], ◌∷◌, ◌++◌, map}
-use Prim.Native.Nat.{ℕ, ◌*◌, ◌<◌, ◌≤◌}
+use mathlib.Core.Logic.{◌↔◌}
+use Prim.Native.Nat.{ℕ, ◌<◌, ◌≤◌}
 use native.Mathlib.Omega.{arith}
-use lib.ListN.{length, get_or, take, drop, length-append, length-map}
+use lib.ListN.{length, get_or, drop, length-append, length-map}
 use lib.Seq.{sets}
+use Rattle.std.specs.Prelude.{Option, None, Some, IsSome, IfSome}
 use Rattle.bits.proofs.Stores.{sets_front}
 use Rattle.bits.proofs.Tests.{is_true}
 use Rattle.bursts.specs.Burst.{Burst, heading, bus_bytes, encoded}
@@ -17,14 +19,16 @@ use Rattle.bursts.proofs.Covering.{weight}
 use Rattle.bursts.proofs.Holding.{Fair}
 use Rattle.bursts.proofs.Shortest.{list_laws, runs_fair}
 use Rattle.bursts.proofs.Spans.{bytes_weight, count_of, spans_of}
+use Rattle.changes.specs.declared.Files.{Files as Lent}
 use Rattle.chip.specs.File.{caption, registers_end}
 use Rattle.chip.specs.Map.{masks}
 use Rattle.plan.specs.Meaning.{AreFiles}
-use Rattle.runs.specs.Found.{runs_at, stuck_at, headings, run_bytes, RunsFound}
+use Rattle.runs.specs.Found.{runs_at, stuck_at, headings, run_bytes, RunsFound, heading_bytes, told_found}
 use Rattle.plan.specs.Spelled.{spelled, HeadsFit}
-use Rattle.runs.specs.declared.find.Found.{Found}
+use Rattle.runs.specs.declared.find.Heading.{Heading}
 use Rattle.plan.specs.Plan.{list_for}
 use Rattle.runs.proofs.Behind.{masks_behind}
+use Rattle.runs.proofs.Finding.{all_taken}
 
 -- a list in the buffer has as many bytes as on the bus
 pub encoded_long : (bs : List Burst) → length (encoded bs) ≡ bus_bytes bs
@@ -58,13 +62,12 @@ module _ (barred : ℕ → Bool) (limit : ℕ) (to : List ℕ) (l : limit ≤ le
 -- ---- two files
 
 -- the runs that were found make our list
-pub record FoundList (from to : List ℕ) (r : Found) (heads : List ℕ) : Type 0 where
+pub record FoundList (from to : List ℕ) (bytes : ℕ) (hs : List Heading) : Type 0 where
   pub clear : stuck masks caption from to ≡ false
-  pub bytes : r.bytes ≡ bus_bytes (list_for from to)
-  pub bursts : r.bursts ≡ length (list_for from to)
-  pub few : 2 * r.bursts ≤ 256
-  pub fit : HeadsFit to (take (2 * r.bursts) heads)
-  pub spells : spelled to (take (2 * r.bursts) heads) ≡ encoded (list_for from to)
+  pub bytes_are : bytes ≡ bus_bytes (list_for from to)
+  pub bursts_are : length hs ≡ length (list_for from to)
+  pub fit : HeadsFit to (heading_bytes hs)
+  pub spells : spelled to (heading_bytes hs) ≡ encoded (list_for from to)
 
 module _ (from to : List ℕ) (files : AreFiles from to) where
   pub are_files : ((i : ℕ) → get_or from i 0 < 256) → ((i : ℕ) → get_or to i 0 < 256)
@@ -78,7 +81,7 @@ module _ (from to : List ℕ) (files : AreFiles from to) where
         behind = masks_behind;
       }
 
-  pub stuck_is : stuck_at from to 0 ≡ stuck masks caption from to
+  stuck_is : stuck_at from to 0 ≡ stuck masks caption from to
   unfolding stuck_at stuck
   stuck_is = rw files.0
 
@@ -110,21 +113,46 @@ module _ (from to : List ℕ) (files : AreFiles from to) where
     spelled_are = rw list_is (spelled_list caption registers_end to inside (runs_at from to 0) fair)
 
   -- what was found, in terms of the list
-  pub found_list : ((i : ℕ) → get_or from i 0 < 256) → ((i : ℕ) → get_or to i 0 < 256)
-      → (r : Found) (heads : List ℕ)
-      → RunsFound from to r heads → r.fixed ≡ false → FoundList from to r heads
-  found_list lf lt r heads g e =
-      let clear : stuck masks caption from to ≡ false = sym stuck_is ∙ sym g.stuck ∙ e in
-      let h = g.listed e in
+  found_list : ((i : ℕ) → get_or from i 0 < 256) → ((i : ℕ) → get_or to i 0 < 256)
+      → (bytes : ℕ) (hs : List Heading) → RunsFound from to (told_found (Some bytes) hs) (heading_bytes hs)
+      → FoundList from to bytes hs
+  found_list lf lt bytes hs g =
+      let clear : stuck masks caption from to ≡ false = sym stuck_is ∙ sym g.stuck in
+      let h : heading_bytes hs ≡ headings (runs_at from to 0) = sym (all_taken hs) ∙ g.listed refl in
       record {
         clear = clear;
-        bytes = g.bytes e ∙ bytes_are lf lt clear;
-        bursts = g.bursts e ∙ bursts_are lf lt clear;
-        few = g.few e;
+        bytes_are = g.bytes refl ∙ bytes_are lf lt clear;
+        bursts_are = g.bursts refl ∙ bursts_are lf lt clear;
         fit = rw h (heads_fit caption registers_end to (inside lf lt clear) (runs_at from to 0)
             (fair lf lt clear));
         spells = rw h (spelled_are lf lt clear);
       }
+
+-- what the code knows of two slices: whether they are lent as files, and whether runs were found
+module _ (from to : List ℕ) (lent : Option Lent) (whether : IsSome lent ↔ AreFiles from to) where
+  pub no_files : lent ≡ None → AreFiles from to → ⊥
+  no_files e f = let w = rw e at whether in absurd (false≢true (w.1 f))
+
+  module _ (files : Lent) (e : lent ≡ Some files)
+      (same : IfSome lent (λ (f : Lent). (f.from.now ≡ from) × (f.to.now ≡ to)))
+      (answer : Option ℕ) (hs : List Heading)
+      (g : RunsFound files.from.now files.to.now (told_found answer hs) (heading_bytes hs)) where
+    pub lent_files : AreFiles from to
+    lent_files = let w = rw e at whether in w.0 refl
+
+    lent_as : (files.from.now ≡ from) × (files.to.now ≡ to)
+    lent_as = rw e at same
+
+    found_of : RunsFound from to (told_found answer hs) (heading_bytes hs)
+    found_of = rw (lent_as.0, lent_as.1) at g
+
+    pub no_runs : answer ≡ None → stuck masks caption from to ≡ true
+    no_runs n = let h = rw n at found_of in sym (stuck_is from to lent_files) ∙ sym h.stuck
+
+    pub some_runs : (bytes : ℕ) → answer ≡ Some bytes → FoundList from to bytes hs
+    some_runs bytes s =
+        found_list from to lent_files (rw lent_as.0 at files.from_file.bytes) (rw lent_as.1 at files.to_file.bytes)
+        bytes hs (rw s at found_of)
 
 -- stored from the front on, a list stands before what is left of the buffer
 pub stored_are : (bs : List Burst) (before : List ℕ) → bus_bytes bs ≤ length before

@@ -18,8 +18,7 @@ use Rattle.reply.specs.Reply.{LowestMeans, rising, done, wrong_length, not_writa
 use Rattle.reply.proofs.Lowest.{lowest_means}
 use Rattle.plan.specs.Meaning.{AreFiles, Candidate, PlanMeans}
 use Rattle.plan.specs.Plan.{list_for, longest_list, plan_tests, plan_reply, refusal, plan_answer}
-use Rattle.plan.specs.Plan.{plan_buffer}
-use Rattle.plan.specs.declared.plan.Planned.{Planned}
+use Rattle.plan.specs.Plan.{Planned, plan_buffer}
 use Rattle.plan.proofs.Lists.{encoded_long, are_files}
 use Rattle.plan.proofs.Longest.{list_small, bursts_fewer}
 use Rattle.plan.proofs.Replies.{Cases, wrong, fixed, long, fine, cases}

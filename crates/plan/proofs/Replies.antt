@@ -16,15 +16,14 @@ use Rattle.chip.specs.File.{caption}
 use Rattle.chip.specs.Map.{masks}
 use Rattle.reply.specs.Reply.{lowest, done, wrong_length, not_writable, too_long}
 use Rattle.plan.specs.Meaning.{AreFiles}
-use Rattle.plan.specs.Plan.{list_for, plan_tests, plan_reply, refusal, plan_answer, plan_buffer}
-use Rattle.plan.specs.declared.plan.Planned.{Planned}
+use Rattle.plan.specs.Plan.{Planned, list_for, plan_tests, plan_reply, refusal, plan_answer, plan_buffer}
 
 module _ (from to : List ℕ) (room : ℕ) where
-  pub reply_from : (length from ≡ 256 → ⊥) → plan_reply from to room ≡ wrong_length
+  reply_from : (length from ≡ 256 → ⊥) → plan_reply from to room ≡ wrong_length
   unfolding plan_reply plan_tests lowest
   reply_from n = rw (ne_eqb (length from) 256 n)
 
-  pub reply_to : (length to ≡ 256 → ⊥) → plan_reply from to room ≡ wrong_length
+  reply_to : (length to ≡ 256 → ⊥) → plan_reply from to room ≡ wrong_length
   unfolding plan_reply plan_tests lowest
   reply_to n = rw (ne_eqb (length to) 256 n, or-true (not (eqb (length from) 256)))
 
@@ -70,6 +69,15 @@ module _ (from to : List ℕ) (room : ℕ) where
           (λ s. ⊎_elim (λ l. fine f s l (reply_done f s l)) (λ l. long f s l (reply_long f s l))
           (le_or_lt (bus_bytes (list_for from to)) room))
           (either (stuck masks caption from to))
+
+  pub reply_wrong : (AreFiles from to → ⊥) → plan_reply from to room ≡ wrong_length
+  reply_wrong n = by cases
+    where
+      by : Cases → plan_reply from to room ≡ wrong_length
+      by (wrong m e) = e
+      by (fixed f s e) = absurd (n f)
+      by (long f s l e) = absurd (n f)
+      by (fine f s l e) = absurd (n f)
 
   -- ---- the answer
 

@@ -7,8 +7,7 @@ use Rattle.bursts.specs.Stuck.{Stuck}
 use Rattle.chip.specs.File.{caption, file_length, registers_end}
 use Rattle.chip.specs.Map.{masks}
 use Rattle.reply.specs.Reply.{LowestMeans, done, wrong_length, not_writable, too_long}
-use Rattle.plan.specs.Plan.{list_for, longest_list, plan_tests, plan_answer, plan_buffer}
-use Rattle.plan.specs.declared.plan.Planned.{Planned}
+use Rattle.plan.specs.Plan.{Planned, list_for, longest_list, plan_tests, plan_answer, plan_buffer}
 
 -- two register files
 abbrev pub AreFiles : List ℕ → List ℕ → Type 0

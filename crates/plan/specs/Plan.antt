@@ -2,13 +2,22 @@
 -- numbers" 1, 10 and 11.
 -- Assumes nothing.
 use Rattle.std.specs.Prelude.{Bool, cond, ◌||◌, List, [], ◌∷◌, ◌++◌, ℕ, eqb, ltb, length, drop}
+use Rattle.std.specs.Prelude.{Result}
 use Rattle.bursts.specs.Burst.{Burst, bus_bytes, encoded}
 use Rattle.bursts.specs.Runs.{bursts_for}
 use Rattle.bursts.specs.Stuck.{stuck}
 use Rattle.chip.specs.File.{wrong_file, caption}
 use Rattle.chip.specs.Map.{masks}
 use Rattle.reply.specs.Reply.{lowest, done, wrong_length, not_writable, too_long}
-use Rattle.plan.specs.declared.plan.Planned.{Planned}
+use Rattle.reply.specs.Refusals.{told}
+use Rattle.reply.specs.declared.Refusal.{Refusal}
+use Rattle.plan.specs.declared.plan.Planned.{Planned as Size}
+
+-- What a plan answers: the reply, and the list's bytes and bursts, both 0 beside a refusal.
+pub record Planned : Type 0 where
+  pub reply : ℕ
+  pub bytes : ℕ
+  pub bursts : ℕ
 
 -- the list of writes from one file to another: caption bytes are barred
 abbrev pub list_for : List ℕ → List ℕ → List Burst
@@ -32,6 +41,10 @@ plan_reply from to room = lowest (plan_tests from to room)
 -- the reply, and the list's bytes and bursts, both 0 beside a refusal
 unfoldable pub refusal : ℕ → Planned
 refusal reply = record { reply = reply; bytes = 0; bursts = 0 }
+
+-- the code's answer by its numbers
+abbrev pub told_plan : Result Size Refusal → Planned
+told_plan = told (λ size. record { reply = done; bytes = size.bytes; bursts = size.bursts }) refusal
 
 unfoldable pub plan_answer : List ℕ → List ℕ → ℕ → Planned
 plan_answer from to room =

@@ -1,56 +1,33 @@
 // plan: the shortest list of writes from one register file to another.
 ghost use Rattle.std.specs.Prelude.{◌≡◌};
 ghost use Rattle.plan.specs.Meaning.{PlanMeans};
-ghost use Rattle.plan.specs.Plan.{refusal};
+ghost use Rattle.plan.specs.Plan.{told_plan};
 
 use crate::write::write_list;
-use chip::file::FILE_LENGTH;
-use reply::{DONE, NOT_WRITABLE, TOO_LONG, WRONG_LENGTH};
-use runs::find::find_runs;
+use changes::Files;
+use reply::Refusal;
+use runs::find::{Headings, find_runs};
 
-// The reply, and the list's bytes and bursts, both 0 beside a refusal.
+// The bytes and the bursts of a list.
 #[derive(Clone, Copy)]
 pub struct Planned {
-    pub reply: u8,
     pub bytes: usize,
     pub bursts: usize,
 }
 
-fn refused(reply: u8) -> Planned
-    ensures { result ≡ refusal reply }
-{
-    Planned {
-        reply,
-        bytes: 0,
-        bursts: 0,
-    }
-}
-
 // The list lies at the buffer's front, and what stands behind it stays; a refusal leaves the buffer.
-pub fn plan(from: &[u8], to: &[u8], out: &mut [u8]) -> Planned
-    ensures { PlanMeans from.now to.now out.old
-        result out.new }
+pub fn plan(from: &[u8], to: &[u8], out: &mut [u8]) -> Result<Planned, Refusal>
+    ensures { PlanMeans from.now to.now out.old (told_plan result) out.new }
 {
-    if from.len() != FILE_LENGTH {
-        return refused(WRONG_LENGTH);
-    }
-    if to.len() != FILE_LENGTH {
-        return refused(WRONG_LENGTH);
-    }
-    let mut heads = [0; 256];
-    let found = find_runs(from, to, &mut heads);
-    if found.fixed {
-        return refused(NOT_WRITABLE);
-    }
-    let bytes = found.bytes;
-    let bursts = found.bursts;
+    let files = Files::new(from, to).ok_or(Refusal::WrongLength)?;
+    let mut headings = Headings::new();
+    let bytes = find_runs(files, &mut headings).ok_or(Refusal::NotWritable)?;
     if out.len() < bytes {
-        return refused(TOO_LONG);
+        return Err(Refusal::TooLong);
     }
-    write_list(to, &heads, bursts, out);
-    Planned {
-        reply: DONE,
+    write_list(files.to, &headings, out);
+    Ok(Planned {
         bytes,
-        bursts,
-    }
+        bursts: headings.len(),
+    })
 }

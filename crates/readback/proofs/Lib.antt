@@ -1,3 +1,4 @@
+pub mod Widths
 pub mod Back
 pub mod Same
 pub mod Answers

@@ -30,8 +30,7 @@ use Rattle.picture.specs.Writing.{write_reply, written, file_after}
 use Rattle.picture.proofs.Accepted.{write_lowest, write_done, after_refused, after_done, lie_in, write_means}
 use Rattle.readback.specs.Meaning.{RegisterFile, WriteMeans, request_numbers, ReadsAs, WrittenWith}
 use Rattle.readback.specs.Meaning.{PicturesMean}
-use Rattle.readback.specs.Reading.{numbers_in, request_in, read_reply, no_request, not_found, read_answer}
-use Rattle.readback.specs.declared.Found.{Found}
+use Rattle.readback.specs.Reading.{numbers_in, request_in, read_reply, no_request, Found, not_found, read_answer}
 use Rattle.readback.proofs.Answers.{read_lowest, read_done}
 use Rattle.readback.proofs.Back.{request_back}
 

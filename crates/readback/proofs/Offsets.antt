@@ -1,19 +1,15 @@
--- The offset as the machine works it out, and offsets that no request can have.
+-- The offset as the machine works it out.
 -- Assumes nothing.
-use mathlib.Core.Bool.{true, false, ◌||◌}
 use mathlib.Core.List.{List}
-use mathlib.Core.Logic.{⊎_elim}
 use mathlib.Core.Path.{◌≡◌}
 use Prim.Native.Nat.{ℕ, zero, suc, ◌+◌, ◌^◌, ◌<◌, ◌≤◌}
 use native.Mathlib.Omega.{arith}
-use borrow.Author.Tests.{ltb-true}
-use lib.Dec.{T, ltb, ltb→lt, leb→le}
+use lib.Dec.{T}
 use lib.IntN.{ℤ, pos, negsuc, neg_ℤ, ◌-ℤ◌}
-use lib.Signed.{mag, lt_z, ◌≤ℤ◌}
+use lib.Signed.{mag}
 use mir.Facts.{to_z-of_z}
-use mir.Syntax.{w8, w64}
+use mir.Syntax.{w64}
 use mir.Val.{SFits, of_z, to_z}
-use Rattle.bits.proofs.Tests.{refusals, or_cases, from_true}
 use Rattle.pieces.specs.Piece.{width}
 use Rattle.fields.specs.Fields.{fit_all}
 use Rattle.fields.proofs.Fitting.{fit_at}
@@ -50,14 +46,3 @@ offset_of vs t =
     let l = fit_at picture_fields vs t 4 in
     difference (fal_in vs) (centred_line (standard_in vs) (outlin_in vs)) (omega arith)
     (centred_small (standard_in vs) (outlin_in vs) (omega arith))
-
--- an offset that is not outside fits eight bits, and one that is outside is none from -8 to 8
-pub inside : (z : ℤ) → (lt_z z (negsuc 127) || lt_z (pos 127) z) ≡ false → SFits w8 z
-inside (pos n) e = let h = simp refusals at e in record { sfits = omega arith }
-inside (negsuc n) e = let h = simp refusals at e in record { sfits = omega arith }
-
-pub outside : (z : ℤ) → (lt_z z (negsuc 127) || lt_z (pos 127) z) ≡ true → negsuc 7 ≤ℤ z → z ≤ℤ pos 8 → ⊥
-outside (pos n) e a b = omega (arith, ltb-true 127 n e, leb→le n 8 b.le)
-outside (negsuc n) e a b =
-    ⊎_elim (λ t. omega (arith, ltb→lt 127 n t, leb→le n 7 a.le)) (λ t. t)
-    (or_cases (ltb 127 n) false (from_true (ltb 127 n || false) e))

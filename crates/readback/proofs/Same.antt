@@ -3,12 +3,10 @@
 use mathlib.Core.Bool.{true, false≢true, ◌&&◌}
 use mathlib.Core.List.{List, [], ◌∷◌, cons-ne-nil}
 use mathlib.Core.Logic.{◌↔◌}
-use mathlib.Core.Path.{◌≡◌, refl}
-use Prim.Native.Nat.{ℕ, ◌+◌, ◌<◌, ◌≤◌}
-use native.Mathlib.Numerals.{add-one}
+use mathlib.Core.Path.{◌≡◌, refl, ap}
+use Prim.Native.Nat.{ℕ}
 use lib.Dec.{eqb}
-use lib.ListN.{length, get_or, drop, drop_of_length-le}
-use lib.Seq.{drop-cons}
+use lib.Pointwise.{pointwise}
 use Rattle.bits.proofs.Tests.{refusals}
 use Rattle.readback.specs.Reading.{same}
 
@@ -20,12 +18,10 @@ same_iff [] (w ∷ ws) = (λ e. absurd (false≢true e), λ e. absurd (cons-ne-n
 same_iff (v ∷ vs) [] = (λ e. absurd (false≢true e), λ e. absurd (cons-ne-nil v vs e))
 same_iff (v ∷ vs) (w ∷ ws) = simp (refusals, same_iff vs ws) (λ h. cc, λ e. (cc, cc))
 
--- from one place of both lists on
-pub same_next : (vs ws : List ℕ) (i : ℕ) → i < length vs → i < length ws → same (drop i vs) (drop i ws)
-    ≡ (eqb (get_or vs i 0) (get_or ws i 0) && same (drop (i + 1) vs) (drop (i + 1) ws))
+-- and what `==` computes
+pub same_is : (vs ws : List ℕ) → same vs ws ≡ pointwise eqb vs ws
 unfolding same
-same_next vs ws i l k = rw (add-one i, drop-cons vs i 0 l, drop-cons ws i 0 k)
-
-pub same_last : (vs ws : List ℕ) (i : ℕ) → length vs ≤ i → length ws ≤ i → same (drop i vs) (drop i ws) ≡ true
-unfolding same
-same_last vs ws i l k = rw (drop_of_length-le vs l, drop_of_length-le ws k)
+same_is [] [] = refl
+same_is [] (w ∷ ws) = refl
+same_is (v ∷ vs) [] = refl
+same_is (v ∷ vs) (w ∷ ws) = ap (λ x. eqb v w && x) (same_is vs ws)

@@ -9,7 +9,6 @@ use Rattle.scaler.specs.Answer.{fields_of, values_of}
 use Rattle.scaler.specs.Limits.{request_reply}
 use Rattle.scaler.specs.Numbers.{middle_clock, centred_line}
 use Rattle.scaler.specs.declared.request.Request.{Request}
-use Rattle.readback.specs.declared.Found.{Found}
 
 -- the numbers of a file's fields, and those that tell the request, by their order in the table of fields
 abbrev pub numbers_in : List ℕ → List ℕ
@@ -99,6 +98,11 @@ no_request =
       xofs = record { 0 = 0 };
       yofso = 0;
     }
+
+-- the reply, and the request beside it
+pub record Found : Type 0 where
+  pub reply : ℕ
+  pub request : Request
 
 unfoldable pub not_found : ℕ → Found
 not_found reply = record { reply = reply; request = no_request }

@@ -1,8 +1,13 @@
 -- Document 01, "Sessions": one byte of kind, then a body whose length the kind fixes.
 -- Assumes nothing.
 use Rattle.std.specs.Prelude.{Bool, cond, ◌&&◌, List, [], ◌∷◌, ℕ, ◌+◌, ltb, leb, length, get_or, drop}
-use Rattle.records.specs.declared.record.Step.{Step}
-use Rattle.records.specs.declared.record.Step.TheVariants.{Record, Broken, End}
+
+-- What stands at a place: a whole record with its kind, the place of its body and that of the next record; a
+-- kind byte whose body is cut short, or which is no known kind; or nothing.
+pub data Step : Type 0 where
+  Record : (kind body next : ℕ) → Step
+  Broken : ℕ → Step
+  End : Step
 
 -- how many bytes the body has, by kind from 01 on: request, register, colour cell, cursor byte, a register
 -- that is shown; every other kind is unknown, and has none

@@ -1,41 +1,76 @@
-// The numbers of the answers, as document 01 lists them.
+// The answers of the operations: done, or one of the refusals that document 01 lists with their numbers.
 #![tactic(auto)]
 
-// Done.
-pub const DONE: u8 = 0;
+ghost use Rattle.std.specs.Prelude.{◌≡◌};
+ghost use Rattle.reply.specs.Refusals.{number_of, reply_of};
 
-// A transaction, a read or a lent file of the wrong length.
-pub const WRONG_LENGTH: u8 = 1;
+use std::error::Error;
+use std::fmt;
 
-// Not the write address, or not the read address of a read.
-pub const WRONG_ADDRESS: u8 = 2;
+// Why an operation was refused, in the order of the numbers. Where several apply, the first is given.
+#[derive(Clone, Copy, Debug, PartialEq, Eq, PartialOrd, Ord, Hash)]
+pub enum Refusal {
+    // A transaction, a read or a lent file of the wrong length.
+    WrongLength = 1,
+    // Not the write address, or not the read address of a read.
+    WrongAddress = 2,
+    // A run that passes its end, or colour bytes that are not whole threes.
+    PassesEnd = 3,
+    // A standard or a source picture that cannot be, or a wrong chip byte.
+    WrongRequest = 4,
+    // An output limit is broken.
+    OutputLimit = 5,
+    // A number does not fit its field.
+    TooLarge = 6,
+    // The pixel clock is over 45 MHz.
+    TooFast = 7,
+    // A weight is below 0 or does not fit its field.
+    WrongWeight = 8,
+    // The file is no accepted picture's.
+    NoPicture = 9,
+    // Two files differ in a bit that the map does not name, or in a caption byte.
+    NotWritable = 10,
+    // A list of writes is longer than the lent buffer.
+    TooLong = 11,
+    // A read of another place than the readable three.
+    NotReadable = 12,
+}
 
-// A run that passes its end, or colour bytes that are not whole threes.
-pub const PASSES_END: u8 = 3;
+impl From<Refusal> for u8 {
+    ghost from_gives = { λ refusal n. n ≡ number_of refusal };
 
-// A standard or a source picture that cannot be, or a wrong chip byte.
-pub const WRONG_REQUEST: u8 = 4;
+    fn from(refusal: Refusal) -> u8 {
+        refusal as u8
+    }
+}
 
-// An output limit is broken.
-pub const OUTPUT_LIMIT: u8 = 5;
+impl fmt::Display for Refusal {
+    fn fmt<W: fmt::Write>(&self, f: &mut fmt::Formatter<W>) -> fmt::Result {
+        f.write_str(match self {
+            Refusal::WrongLength => "a wrong length",
+            Refusal::WrongAddress => "a wrong address",
+            Refusal::PassesEnd => "a run that passes its end",
+            Refusal::WrongRequest => "a picture or a chip that cannot be",
+            Refusal::OutputLimit => "an output limit is broken",
+            Refusal::TooLarge => "a number does not fit its field",
+            Refusal::TooFast => "the pixel clock is too fast",
+            Refusal::WrongWeight => "a weight does not fit its field",
+            Refusal::NoPicture => "no accepted picture's file",
+            Refusal::NotWritable => "a difference that no write reaches",
+            Refusal::TooLong => "the list is longer than the buffer",
+            Refusal::NotReadable => "no readable place",
+        })
+    }
+}
 
-// A number does not fit its field.
-pub const TOO_LARGE: u8 = 6;
+impl Error for Refusal {}
 
-// The pixel clock is over 45 MHz.
-pub const TOO_FAST: u8 = 7;
-
-// A weight is below 0 or does not fit its field.
-pub const WRONG_WEIGHT: u8 = 8;
-
-// The file is no accepted picture's.
-pub const NO_PICTURE: u8 = 9;
-
-// Two files differ in a bit that the map does not name, or in a caption byte.
-pub const NOT_WRITABLE: u8 = 10;
-
-// A list of writes is longer than the lent buffer.
-pub const TOO_LONG: u8 = 11;
-
-// A read of another place than the readable three.
-pub const NOT_READABLE: u8 = 12;
+// The number of an answer: 0 where it is done, else the refusal's.
+pub fn reply_of(answer: Result<(), Refusal>) -> u8
+    ensures { result ≡ reply_of answer }
+{
+    match answer {
+        Ok(()) => 0,
+        Err(refusal) => u8::from(refusal),
+    }
+}

@@ -1,40 +1,33 @@
-// Printing on standard output, for the programs that print what the tests compare. A write that fails is not
-// told: what is missing then is seen in the comparison. No contract can speak of what is printed.
+// What the programs share whose output is compared: bytes in hex, parts of longer runs, and requests.
 #![tactic(auto)]
 
-use std::io::{Write, writer};
+pub mod examples;
 
-pub fn word(rt: &impl Print, text: &[u8]) {
-    let _ = writer(rt).write_all(text);
-}
+ghost use Rattle.std.specs.Prelude.{◌≡◌, ◌≤◌, ◌<◌, ◌⊎◌, length, take, drop, Some};
+ghost use Rattle.report.specs.Hex.{hex_text};
 
-// A name, and the number that it is the name of.
-pub fn number(rt: &impl Print, name: &[u8], x: u64) {
-    word(rt, name);
-    let _ = print!(rt; "{x}");
-}
+use std::fmt;
 
-pub fn number_8(rt: &impl Print, name: &[u8], x: u8) {
-    number(rt, name, x as u64);
-}
+// Bytes as they are printed: before each a space, and each in two hex digits.
+#[derive(Clone, Copy)]
+pub struct Hex<'a>(pub &'a [u8]);
 
-// A byte as a space and two digits.
-pub fn hex_byte(rt: &impl Print, x: u8) {
-    word(rt, b" ");
-    let _ = print!(rt; "{x:02x}");
-}
+impl fmt::Display for Hex<'_> {
+    ghost output = { λ hex. Some (hex_text hex.0.now) };
 
-pub fn hex_bytes(rt: &impl Print, bytes: &[u8]) {
-    let mut i = 0;
-    while i < bytes.len() {
-        hex_byte(rt, bytes[i]);
-        i += 1;
+    fn fmt<W: fmt::Write>(&self, f: &mut fmt::Formatter<W>) -> fmt::Result {
+        for &byte in self.0 {
+            write!(f, " {byte:02x}")?;
+        }
+        Ok(())
     }
 }
 
-// A line: a name, and the bytes that it is the name of.
-pub fn show_bytes(rt: &impl Print, name: &[u8], bytes: &[u8]) {
-    word(rt, name);
-    hex_bytes(rt, bytes);
-    word(rt, b"\n");
+// The bytes of a longer run from a start up to an end; all of it where they do not lie in it, as
+// the programs print what there is.
+pub fn part(bytes: &[u8], start: usize, end: usize) -> &[u8]
+    ensures inside { start ≤ end → end ≤ length bytes.now → result.now ≡ drop start (take end bytes.now) }
+    ensures outside { (end < start) ⊎ (length bytes.now < end) → result.now ≡ bytes.now }
+{
+    bytes.get(start..end).unwrap_or(bytes)
 }

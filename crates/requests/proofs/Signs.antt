@@ -1,65 +1,32 @@
--- Bytes in two's complement, as the machine works them out: a byte from 128 on less 256, and a number below 0
--- with 256 more.
+-- What the library's casts between `u8` and `i8` give, and its two bytes of a `u16`.
 -- Assumes nothing.
-use mathlib.Core.Path.{◌≡◌, refl, ◌∙◌}
-use mathlib.Core.Bool.{true, false, false≢true}
-use Prim.Native.Nat.{ℕ, suc, ◌-◌, ◌<◌, ◌≤◌}
-use native.Mathlib.Omega.{arith}
-use borrow.Author.Tests.{leb-false}
-use lib.Dec.{T}
-use lib.IntN.{ℤ, pos, negsuc, nat_abs, ◌+ℤ◌, ◌-ℤ◌}
-use lib.Signed.{le_z, non_neg}
-use mir.Facts.{to_z-of_z}
+use Rattle.std.proofs.Common.{[], ◌∷◌, ◌+◌, ◌*◌, ◌/◌, ◌%◌, ◌^◌, ◌≡◌, ℕ, suc, ◌-◌, ◌<◌, Bool, true, false, cond, refl, sym, arith}
+use Rattle.std.specs.Prelude.{ltb, ℤ, pos, negsuc, ◌-ℤ◌}
+use Rattle.std.specs.Int.{from_le_bytes, to_le_bytes}
 use mir.Syntax.{w8, w16}
-use mir.Val.{Fits, SFits, of_z, to_z}
-use Rattle.scaler.proofs.Integers.{sub_neg, sub_pos}
-use Rattle.requests.specs.Requests.{unsigned}
+use mir.Val.{SFits, of_z, to_z}
+use Rattle.scaler.proofs.Integers.{sub_neg}
+use Rattle.requests.specs.Requests.{signed, unsigned, half_bytes}
 
-module _ (b : ℕ) (high : 128 ≤ b) (byte : b < 256) where
-  below : pos b -ℤ pos 256 ≡ negsuc (256 - suc b)
-  below = sub_neg b 256 byte
+by_test : (b : ℕ) (t : Bool) → ltb b 128 ≡ t → b < 256
+    → cond t (pos b) (negsuc (256 - suc b)) ≡ cond t (pos b) (pos b -ℤ pos 256)
+by_test b true e h = refl
+by_test b false e h = sym (sub_neg b 256 h)
 
-  wide : to_z w16 b -ℤ pos 256 ≡ pos b -ℤ pos 256
-  wide = rw (to_z-of_z {w = w16} {z = pos b} (record { sfits = omega arith }))
+pub signed_is : (b : ℕ) → b < 256 → to_z w8 b ≡ signed b
+unfolding signed
+signed_is b h = by_test b (ltb b 128) refl h
 
-  pub fits_wide : SFits w16 (to_z w16 b -ℤ pos 256)
-  fits_wide = rw (wide, below) (record { sfits = omega arith })
-
-  pub read_wide : to_z w16 (of_z w16 (to_z w16 b -ℤ pos 256)) ≡ pos b -ℤ pos 256
-  read_wide = to_z-of_z fits_wide ∙ wide
-
-  pub fits_narrow : SFits w8 (pos b -ℤ pos 256)
-  fits_narrow = rw below (record { sfits = omega arith })
-
--- a number that is not below 0 is its own byte
-pub record Up (z : ℤ) : Type 0 where
-  pub fits : T (non_neg z) × Fits w8 (nat_abs z)
-  pub is : nat_abs z ≡ unsigned z
-
-pub up : (z : ℤ) → SFits w8 z → le_z (pos 0) z ≡ true → Up z
+pub unsigned_is : (z : ℤ) → SFits w8 z → of_z w8 z ≡ unsigned z
 unfolding unsigned
-up (pos n) f h =
-    let g : n < 128 = f.sfits in
-    record { fits = (tt, record { fits = omega arith }); is = refl }
-up (negsuc n) f h = absurd (false≢true h)
+unsigned_is (pos n) f = refl
+unsigned_is (negsuc n) f = let g : n < 128 = f.sfits in omega arith
 
--- one that is below 0 has 256 more
-pub record Down (z : ℤ) : Type 0 where
-  pub wide : SFits w16 z
-  pub sum : z +ℤ pos 256 ≡ pos (unsigned z)
-  pub sum_fits : SFits w16 (z +ℤ pos 256)
-  pub small : unsigned z < 256
+-- ---- numbers of 16 bits
 
-pub down : (z : ℤ) → SFits w8 z → le_z (pos 0) z ≡ false → Down z
-unfolding unsigned
-down (pos n) f h = let l = leb-false 0 n h in absurd (omega arith)
-down (negsuc n) f h =
-    let g : n < 128 = f.sfits in
-    let s : negsuc n +ℤ pos 256 ≡ pos (256 - suc n) = sub_pos 256 (suc n) (omega arith) in
-    let e : 256 - suc n ≡ 255 - n = omega arith in
-    record {
-      wide = record { sfits = omega arith };
-      sum = s ∙ rw e;
-      sum_fits = rw s (record { sfits = omega arith });
-      small = omega arith;
-    }
+pub word_is : (low high : ℕ) → from_le_bytes w16 (low ∷ high ∷ []) ≡ low + 256 * high
+word_is low high = omega arith
+
+pub halves_are : (v : ℕ) → v < 2 ^ 16 → to_le_bytes w16 v ≡ half_bytes v
+unfolding half_bytes
+halves_are v h = let e : v / 256 % 256 ≡ v / 256 = omega arith in cc

@@ -2,13 +2,14 @@
 -- with the caption bytes barred, and whether a changed place can't be written.
 -- Assumes nothing.
 use Rattle.std.specs.Prelude.{◌≡◌, Bool, true, false, List, [], ◌∷◌, ℕ, ◌+◌, ◌-◌, ◌*◌, ◌<◌, ◌≤◌, length, take}
+use Rattle.std.specs.Prelude.{Option, None, Some}
 use Rattle.bursts.specs.Burst.{heading}
 use Rattle.bursts.specs.Runs.{Run, run, changed, runs_from}
 use Rattle.bursts.specs.Stuck.{fixed_at, some_from}
 use Rattle.chip.specs.File.{caption, file_length, registers_end}
 use Rattle.chip.specs.Map.{masks}
 use Rattle.runs.specs.declared.find.Extent.{Extent}
-use Rattle.runs.specs.declared.find.Found.{Found}
+use Rattle.runs.specs.declared.find.Heading.{Heading}
 
 -- the runs of the places from p on, and whether one of these places can't be written
 unfoldable pub runs_at : List ℕ → List ℕ → ℕ → List Run
@@ -45,6 +46,12 @@ unfoldable pub run_bytes : List Run → ℕ
 run_bytes [] = 0
 run_bytes (r ∷ rs) = heading + (r.end - r.start) + run_bytes rs
 
+-- Whether a place can't be written, and the bytes and bursts of the runs.
+pub record Found : Type 0 where
+  pub fixed : Bool
+  pub bytes : ℕ
+  pub bursts : ℕ
+
 -- all runs of two files
 pub record RunsFound (from to : List ℕ) (r : Found) (heads : List ℕ) : Type 0 where
   pub stuck : r.fixed ≡ stuck_at from to 0
@@ -54,3 +61,13 @@ pub record RunsFound (from to : List ℕ) (r : Found) (heads : List ℕ) : Type 
   pub bursts : r.fixed ≡ false → r.bursts ≡ length (runs_at from to 0)
   pub few : r.fixed ≡ false → 2 * r.bursts ≤ file_length
   pub listed : r.fixed ≡ false → take (2 * r.bursts) heads ≡ headings (runs_at from to 0)
+
+-- headings of the code, as bytes one behind the other
+unfoldable pub heading_bytes : List Heading → List ℕ
+heading_bytes [] = []
+heading_bytes (h ∷ hs) = h.start ∷ h.count ∷ heading_bytes hs
+
+-- what the code answers beside its headings, in these words: nothing is counted where a place can't be written
+abbrev pub told_found : Option ℕ → List Heading → Found
+told_found None hs = record { fixed = true; bytes = 0; bursts = 0 }
+told_found (Some bytes) hs = record { fixed = false; bytes = bytes; bursts = length hs }

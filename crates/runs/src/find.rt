@@ -1,12 +1,13 @@
-// find_runs: the runs of changed places of two files, as headings, with what they come to. It asks for two
-// files, and run_from for a changed place of two whose changed places can all be written.
-ghost use Rattle.std.specs.Prelude.{◌≡◌, ◌≤◌, length};
+// find_runs: the runs of changed places of two files, as headings, with what they come to. run_from asks for a
+// changed place of two files whose changed places can all be written.
+ghost use Rattle.std.specs.Prelude.{◌≡◌, ◌≤◌};
 ghost use Rattle.bursts.specs.Runs.{bridged};
 ghost use Rattle.chip.specs.File.{caption, file_length};
-ghost use Rattle.runs.specs.Found.{ChangeAt, RunFound, RunsFound};
+ghost use Rattle.runs.specs.Found.{ChangeAt, RunFound, RunsFound, told_found, heading_bytes};
 
 use crate::fixed::any_fixed;
-use changes::next_change;
+use arrayvec::ArrayVec;
+use changes::Files;
 use chip::file::{FILE_LENGTH, is_caption};
 
 // A run goes on over a gap of so many places.
@@ -15,20 +16,25 @@ const BRIDGE: usize = 2;
 // A burst has so many bytes of heading.
 const HEADING: usize = 2;
 
-// Where a run ends, and the next changed place behind it.
+// A run has a place, and leaves one behind it.
+pub const MOST: usize = FILE_LENGTH / 2;
+
+// Where a run ends, and the next changed place behind it, or the file's length, as next_change has it.
 #[derive(Clone, Copy)]
 pub struct Extent {
     pub end: usize,
     pub next: usize,
 }
 
-// Whether a place can't be written, and the bytes and bursts of the runs.
-#[derive(Clone, Copy)]
-pub struct Found {
-    pub fixed: bool,
-    pub bytes: usize,
-    pub bursts: usize,
+// A run as a burst begins with it: the first place, and how many.
+#[derive(Clone, Copy, Default)]
+pub struct Heading {
+    pub start: u8,
+    pub count: u8,
 }
+
+// The runs from the lowest place up.
+pub type Headings = ArrayVec<Heading, MOST>;
 
 // Whether a run that ends at `end` goes on at `next`. A gap that is bridged has two places at most, its first
 // and its last.
@@ -45,59 +51,45 @@ fn goes_on(end: usize, next: usize) -> bool
     !(is_caption(end) | is_caption(next - 1))
 }
 
-// The run that begins at a changed place.
-fn run_from(from: &[u8], to: &[u8], start: usize) -> Extent
-    requires { ChangeAt from.now to.now start }
-    ensures { RunFound from.now to.now start result }
+// The run that begins at a changed place. No `for`: each turn begins at the change that the one before found.
+fn run_from(files: Files, start: usize) -> Extent
+    requires { ChangeAt files.from.now files.to.now start }
+    ensures { RunFound files.entry.from.now files.entry.to.now start result }
 {
     let mut end = start + 1;
-    let mut next = next_change(from, to, end);
+    let mut next = files.next_change(end);
     while next < FILE_LENGTH {
         if !goes_on(end, next) {
             return Extent { end, next };
         }
         end = next + 1;
-        next = next_change(from, to, end);
+        next = files.next_change(end);
     }
     Extent { end, next }
 }
 
-// Each run's start and count, one run behind the other, in `heads`. Nothing is told of them where a place
-// can't be written.
-pub fn find_runs(from: &[u8], to: &[u8], heads: &mut [u8]) -> Found
-    requires { (length from.now ≡ file_length) × (length to.now ≡ file_length)
-        × (length heads.old ≡ file_length) }
-    ensures { RunsFound from.now to.now result heads.new }
+// The bytes of a list that writes the runs, whose headings go into the lent vector, or None where a changed place
+// can't be written. Lent, since one that is handed out is copied, by memcpy, which the archive for C does without.
+pub fn find_runs(files: Files, headings: &mut Headings) -> Option<usize>
+    ensures { RunsFound files.entry.from.now files.entry.to.now
+        (told_found result headings.new.items) (heading_bytes headings.new.items) }
 {
+    headings.clear();
     let mut bytes: usize = 0;
-    let mut bursts: usize = 0;
-    let mut start = next_change(from, to, 0);
-    if FILE_LENGTH <= start {
-        return Found {
-            fixed: false,
-            bytes: 0,
-            bursts: 0,
-        };
-    }
-    if any_fixed(from, to) {
-        return Found {
-            fixed: true,
-            bytes: 0,
-            bursts: 0,
-        };
+    let mut start = files.next_change(0);
+    // Equal files are answered before all places are tested. No `for`: each run says where the next begins.
+    if start < FILE_LENGTH && any_fixed(files) {
+        return None;
     }
     while start < FILE_LENGTH {
-        let run = run_from(from, to, start);
+        let run = run_from(files, start);
         let count = run.end - start;
-        heads[2 * bursts] = start as u8;
-        heads[2 * bursts + 1] = count as u8;
+        headings.push(Heading {
+            start: start as u8,
+            count: count as u8,
+        });
         bytes += HEADING + count;
-        bursts += 1;
         start = run.next;
     }
-    Found {
-        fixed: false,
-        bytes,
-        bursts,
-    }
+    Some(bytes)
 }

@@ -1,10 +1,9 @@
-// any_fixed: whether two files differ where no write reaches. It asks for two files.
-ghost use Rattle.std.specs.Prelude.{◌≡◌, length};
-ghost use Rattle.chip.specs.File.{file_length};
+// any_fixed: whether two files differ where no write reaches.
+ghost use Rattle.std.specs.Prelude.{◌≡◌};
 ghost use Rattle.runs.specs.Found.{stuck_at};
 
 use bits::merge::merge_byte;
-use changes::same_four;
+use changes::{Files, same_four};
 use chip::file::FILE_LENGTH;
 use chip::map::mask_table;
 
@@ -12,19 +11,18 @@ use chip::map::mask_table;
 const CAPTION: usize = 0x67;
 
 // With no branch in the loop, many places are tested at once.
-pub fn any_fixed(from: &[u8], to: &[u8]) -> bool
-    requires { (length from.now ≡ file_length) × (length to.now ≡ file_length) }
-    ensures { result ≡ stuck_at from.now to.now 0 }
+pub fn any_fixed(files: Files) -> bool
+    ensures { result ≡ stuck_at files.entry.from.now files.entry.to.now 0 }
 {
+    let from = files.from;
+    let to = files.to;
     if !same_four(from, to, CAPTION) {
         return true;
     }
     let table = mask_table();
     let mut fixed = false;
-    let mut p = 0;
-    while p < FILE_LENGTH {
-        fixed = fixed | (merge_byte(table[p], from[p], to[p]) != to[p]);
-        p += 1;
+    for p in 0..FILE_LENGTH {
+        fixed |= merge_byte(table[p], from[p], to[p]) != to[p];
     }
     fixed
 }

@@ -3,7 +3,7 @@
 use mathlib.Core.Bool.{false, not, cond}
 use mathlib.Core.List.{map}
 use mathlib.Core.Logic.{◌↔◌, inl}
-use mathlib.Core.Path.{◌≡◌, refl, sym, ◌∙◌}
+use mathlib.Core.Path.{◌≡◌, refl, sym, ap, ◌∙◌}
 use Prim.Native.Nat.{ℕ, zero, suc, ◌-◌}
 use native.Mathlib.Omega.{arith}
 use borrow.Author.Tests.{le-ltb, ne_eqb, not-false}
@@ -15,12 +15,11 @@ use Rattle.pieces.specs.Piece.{width}
 use Rattle.chip.specs.Fields.{picture_fields}
 use Rattle.reply.specs.Reply.{applies}
 use Rattle.scaler.specs.Acceptable.{Acceptable}
-use Rattle.scaler.specs.Answer.{numbers_of, fields_of, values_of, no_fields, refusal, checked}
+use Rattle.scaler.specs.Answer.{numbers_of, fields_of, values_of, no_fields, Checked, refusal, checked}
 use Rattle.scaler.specs.Limits.{lines_for, num_for, den_for, output_holds, numbers_pass, request_tests}
 use Rattle.scaler.specs.Limits.{request_reply}
 use Rattle.scaler.specs.Meaning.{AnswersMean}
 use Rattle.scaler.specs.Numbers.{yinc_of, yofse_of}
-use Rattle.scaler.specs.declared.request.Checked.{Checked}
 use Rattle.scaler.specs.declared.request.Fields.{Fields}
 use Rattle.scaler.specs.declared.request.Request.{Request}
 use Rattle.scaler.proofs.Bounds.{all_fit}
@@ -45,6 +44,16 @@ reply_is q = reply_or_0 (request_reply q) (fields_of q)
 pub fields_are : (q : Request) → request_reply q ≡ 0 → (checked q).fields ≡ fields_of q
 unfolding checked
 fields_are q e = rw e
+
+-- what code tells by the record
+pub told_fields : (q : Request) (f : Fields) → record { reply = 0; fields = f } ≡ checked q
+    → (request_reply q ≡ 0) × (f ≡ fields_of q)
+told_fields q f e =
+    let r = sym (reply_is q) ∙ sym (ap (λ x. x.reply) e) in (r, ap (λ x. x.fields) e ∙ fields_are q r)
+
+pub told_refusal : (q : Request) (n : ℕ) → refusal n ≡ checked q → request_reply q ≡ n
+unfolding refusal
+told_refusal q n e = sym (reply_is q) ∙ sym (ap (λ x. x.reply) e)
 
 -- ---- accepted, and acceptable
 

@@ -2,11 +2,12 @@
 -- Assumes nothing.
 use mathlib.Core.Bool.{Bool, true, false, cond}
 use mathlib.Core.Path.{◌≡◌, refl}
-use Prim.Native.Nat.{ℕ, suc, ◌+◌, ◌-◌, ◌*◌, ◌/◌, ◌≤◌}
+use Prim.Native.Nat.{ℕ, suc, ◌+◌, ◌-◌, ◌*◌, ◌/◌, ◌^◌, ◌<◌, ◌≤◌}
 use native.Mathlib.Omega.{arith}
 use borrow.Author.Tests.{le-ltb}
 use lib.Dec.{eqb}
 use lib.IntN.{ℤ, pos, negsuc, ◌+ℤ◌}
+use lib.Signed.{mag}
 use Rattle.bits.proofs.Tests.{refusals}
 use Rattle.scaler.specs.Limits.{most_pixels, most_lines, offset_holds}
 use Rattle.scaler.specs.Numbers.{by, adwhs_of, adwhe_of, centred_line, fal_of, lal_of, hlen_of}
@@ -19,6 +20,11 @@ at_both P false a b = b
 
 pub by_le : (standard sixty fifty most : ℕ) → sixty ≤ most → fifty ≤ most → by standard sixty fifty ≤ most
 by_le standard sixty fifty most = at_both (λ t. cond t sixty fifty ≤ most) (eqb standard 0)
+
+-- chosen among integers, as among naturals
+pub by_pos : (standard sixty fifty : ℕ) → by standard (pos sixty) (pos fifty) ≡ pos (by standard sixty fifty)
+by_pos standard sixty fifty =
+    at_both (λ t. cond t (pos sixty) (pos fifty) ≡ pos (cond t sixty fifty)) (eqb standard 0) refl refl
 
 -- ---- a number moved by the offset
 
@@ -42,6 +48,12 @@ moved a (negsuc n) e l =
       high = omega
           arith;
     }
+
+-- an offset that the limits let through fits eight bits
+pub offset_small : (offset : ℤ) → offset_holds offset ≡ true → mag offset < 2 ^ 7
+unfolding offset_holds
+offset_small (pos n) e = let h = simp refusals at e in omega arith
+offset_small (negsuc n) e = let h = simp refusals at e in omega arith
 
 -- ---- FAL and LAL
 

@@ -1,11 +1,12 @@
 -- The answer to a request: the reply, and the fields' numbers (document 01, "From picture to fields").
 -- Assumes nothing.
-use Rattle.std.specs.Prelude.{cond, List, [], ◌∷◌, ℕ, eqb, ℤ, pos, nat_abs}
+use Rattle.std.specs.Prelude.{cond, List, [], ◌∷◌, ℕ, eqb, ℤ, pos, nat_abs, Result}
+use Rattle.reply.specs.Refusals.{told}
 use Rattle.reply.specs.Reply.{done}
+use Rattle.reply.specs.declared.Refusal.{Refusal}
 use Rattle.scaler.specs.Limits.{lines_for, num_for, den_for, request_reply}
 use Rattle.scaler.specs.Numbers.{fise_of, adwhs_of, adwhe_of, fal_of, lal_of, xpix_of, hlen_of, xinc_of, pcl_of}
 use Rattle.scaler.specs.Numbers.{yinc_of, yiwgto_of, yiwgte_of, yofse_of}
-use Rattle.scaler.specs.declared.request.Checked.{Checked}
 use Rattle.scaler.specs.declared.request.Fields.{Fields}
 use Rattle.scaler.specs.declared.request.Request.{Request}
 
@@ -83,6 +84,11 @@ no_fields =
       yskip = 0;
     }
 
+-- the reply, and the fields beside it
+pub record Checked : Type 0 where
+  pub reply : ℕ
+  pub fields : Fields
+
 unfoldable pub refusal : ℕ → Checked
 refusal reply = record { reply = reply; fields = no_fields }
 
@@ -92,3 +98,7 @@ checked q =
     cond (eqb (request_reply q) done)
     (record { reply = done; fields = fields_of q })
     (refusal (request_reply q))
+
+-- what code answers, as the reply with the fields beside it
+abbrev pub told_check : Result Fields Refusal → Checked
+told_check = told (λ f. record { reply = done; fields = f }) refusal

@@ -1,17 +1,19 @@
-// Request, what is wanted; Fields, the numbers that the chip's fields are to hold; Checked, the answer.
+// Request, what is wanted; Fields, the numbers that the chip's fields are to hold, and all of them as one array.
+ghost use Rattle.std.specs.Prelude.{◌≡◌};
+ghost use Rattle.scaler.specs.Answer.{values_of};
 
 // A count of pixel clocks.
-#[derive(Clone, Copy)]
+#[derive(Clone, Copy, Debug, PartialEq, Eq)]
 pub struct PixelClocks(pub u16);
 
 // A count of encoder clocks, two to an output pixel.
-#[derive(Clone, Copy)]
+#[derive(Clone, Copy, Debug, PartialEq, Eq)]
 pub struct EncoderClocks(pub u16);
 
 // A wanted picture, with the paper's names.
-#[derive(Clone, Copy)]
+#[derive(Clone, Copy, Debug, PartialEq, Eq)]
 pub struct Request {
-    // 0 is 60 Hz, 1 is 50 Hz.
+    // 0 is 60 Hz, 1 is 50 Hz. A request may come with any byte here, and is then refused.
     pub standard: u8,
     // The source: pixels a line, lines, and pixel clocks a line.
     pub inpix: u16,
@@ -30,7 +32,7 @@ pub struct Request {
 }
 
 // The fields, in the order of document 01's table.
-#[derive(Clone, Copy)]
+#[derive(Clone, Copy, Debug, PartialEq, Eq)]
 pub struct Fields {
     pub fise: u8,
     pub adwhs: EncoderClocks,
@@ -51,9 +53,30 @@ pub struct Fields {
     pub yskip: u16,
 }
 
-// The reply, and the fields, all 0 beside a refusal.
-#[derive(Clone, Copy)]
-pub struct Checked {
-    pub reply: u8,
-    pub fields: Fields,
+// The numbers as one array, in the same order.
+impl From<Fields> for [u32; 17] {
+    ghost from_gives = { λ fields values. values ≡ values_of fields };
+
+    #[tactic(auto, unfolding(crate::specs::Answer::values_of))]
+    fn from(fields: Fields) -> [u32; 17] {
+        [
+            fields.fise as u32,
+            fields.adwhs.0 as u32,
+            fields.adwhe.0 as u32,
+            fields.fal as u32,
+            fields.lal as u32,
+            fields.pcl,
+            fields.xofs.0 as u32,
+            fields.xpix as u32,
+            fields.yofso as u32,
+            fields.yofse as u32,
+            fields.ypix as u32,
+            fields.hlen.0 as u32,
+            fields.xinc as u32,
+            fields.yinc as u32,
+            fields.yiwgto as u32,
+            fields.yiwgte as u32,
+            fields.yskip as u32,
+        ]
+    }
 }

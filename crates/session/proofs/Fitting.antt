@@ -8,21 +8,15 @@ use native.Mathlib.Decide.{ℕ_discrete}
 use native.Mathlib.Omega.{arith}
 use lib.ListN.{length, take, length-append}
 use Rattle.bus.specs.declared.state.State.{State}
-use Rattle.bus.specs.declared.state.Answer.{Answer}
-use Rattle.lines.specs.Lines.{hex, added_byte, line}
+use Rattle.bus.specs.Answers.{Answer}
+use Rattle.lines.specs.Lines.{hex, added_byte}
+use Rattle.lines.proofs.Digits.{line_long}
 use Rattle.records.specs.Records.{body_length, whole}
 use Rattle.records.proofs.Steps.{whole_known, whole_long}
 use Rattle.effects.specs.Effects.{outcome}
 use Rattle.effects.proofs.Effects.{shown_byte, shown_none}
 use Rattle.session.specs.Runs.{line_of, play, longest_session, longest_print}
 use Rattle.session.proofs.Plays.{play_done, play_broken}
-
--- a line has five bytes, and those that are added
-pub line_long : (kind reply : ℕ) (added : List ℕ) → length (line kind reply added) ≡ 5 + length added
-unfolding line hex
-line_long kind reply added =
-    let e = length-append added (0x0A ∷ []) in
-    omega arith
 
 -- 05 has a body of one byte
 show_wide : body_length 5 ≡ 1

@@ -15,7 +15,7 @@ use Rattle.reply.specs.Reply.{done, wrong_length, lowest}
 use Rattle.transactions.specs.Writes.{write_address, cursor_at, colours_at}
 use Rattle.transactions.specs.Writes.{registers_pass, passes, write_tests, write_reply}
 use Rattle.bus.specs.declared.state.State.{State}
-use Rattle.bus.specs.declared.state.Answer.{Answer}
+use Rattle.bus.specs.Answers.{Answer}
 use Rattle.bus.specs.Meaning.{Sized}
 use Rattle.bus.specs.States.{with_file, zero_state, fresh_answer, stored, bus_write}
 use Rattle.fields.specs.Laws.{Bytes}
@@ -40,7 +40,8 @@ use Rattle.effects.proofs.Effects.{picture_does, body_long, last_kind, register_
 use Rattle.effects.proofs.Effects.{cell_fits, colour_does, cursor_does, show_does}
 use Rattle.session.specs.Meaning.{Given, RecordMeans, SessionsMean}
 use Rattle.session.specs.Runs.{play, played, bench_state, run_answer, longest_session, longest_print}
-use Rattle.session.proofs.Fitting.{session_fits, line_long}
+use Rattle.lines.proofs.Digits.{line_long}
+use Rattle.session.proofs.Fitting.{session_fits}
 use Rattle.session.proofs.Plays.{play_done, play_broken}
 
 -- what holds of an answer, whatever the record was

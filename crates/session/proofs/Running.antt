@@ -14,7 +14,8 @@ use Rattle.lines.specs.Lines.{line}
 use Rattle.session.specs.Runs.{Played, answer_of, play, played, run_answer, run_buffer}
 use Rattle.session.specs.Runs.{longest_session, longest_print}
 use Rattle.session.specs.declared.run.Ran.{Ran}
-use Rattle.session.proofs.Fitting.{line_long, session_fits}
+use Rattle.lines.proofs.Digits.{line_long}
+use Rattle.session.proofs.Fitting.{session_fits}
 
 -- what a run answers, and the buffer that it leaves
 pub record Answers (s : State) (session before : List ℕ) (r : Ran) (after : List ℕ) : Type 0 where

@@ -3,7 +3,7 @@
 use Rattle.std.specs.Prelude.{cond, List, [], ◌∷◌, ◌++◌, ℕ, zero, suc, leb, ltb, length, drop, take}
 use Rattle.reply.specs.Reply.{wrong_length}
 use Rattle.bus.specs.declared.state.State.{State}
-use Rattle.bus.specs.declared.state.Answer.{Answer}
+use Rattle.bus.specs.Answers.{Answer}
 use Rattle.bus.specs.States.{fresh_answer}
 use Rattle.records.specs.Records.{body_length, whole}
 use Rattle.lines.specs.Lines.{line}

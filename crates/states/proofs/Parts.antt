@@ -6,7 +6,7 @@ use Prim.Native.Nat.{ℕ, ◌+◌, ◌≤◌}
 use native.Mathlib.Omega.{arith}
 use lib.ListN.{length, get_or, set, take, drop, length-drop, take-append-drop, drop_of_length-le}
 use lib.Seq.{length-take-le, drop-cons, drop-drop, take-add, take-set-le, drop-set-add}
-use Rattle.bus.specs.States.{with_file, with_colours, with_cursor, with_status, with_fifo}
+use Rattle.bus.specs.States.{with_arrays, with_status, with_fifo}
 use Rattle.states.specs.Lent.{state_in, bytes_of}
 
 -- a part has its length
@@ -49,7 +49,7 @@ module _ (xs : List ℕ) (l : length xs ≡ 1283) where
       ∙ ap (λ (f : List ℕ). f ++ (take 256 (drop 1024 xs) ++ t)) (take-add 256 768 xs)
       ∙ append_assoc (take 256 xs) (take 768 (drop 256 xs)) (take 256 (drop 1024 xs) ++ t)
 
-  -- ---- the whole, and the whole with one part anew
+  -- ---- the whole, and the whole with some parts anew
 
   pub whole : bytes_of (state_in xs) ≡ xs
   unfolding bytes_of state_in
@@ -57,22 +57,18 @@ module _ (xs : List ℕ) (l : length xs ≡ 1283) where
       sym (ap (λ (t : List ℕ). take 256 xs ++ t) behind_file)
       ∙ take-append-drop 256 xs
 
-  pub file_anew : (ys : List ℕ) → ys ++ drop 256 xs ≡ bytes_of (with_file (state_in xs) ys)
-  unfolding bytes_of state_in
-  file_anew ys = ap (λ (t : List ℕ). ys ++ t) behind_file
+  -- the arrays as three parts that are split off in turn: they are those of the state, and anew they are its
+  -- bytes before what stands behind them
+  pub arrays_in : with_arrays (state_in xs) (take 256 xs) (take 768 (drop 256 xs))
+      (take 256 (drop 768 (drop 256 xs)))
+      ≡ state_in xs
+  unfolding state_in
+  arrays_in = rw (drop-drop 768 256 xs)
 
-  pub colours_anew : (ys : List ℕ) → take 256 xs ++ (ys ++ drop 768 (drop 256 xs))
-      ≡ bytes_of (with_colours (state_in xs) ys)
+  pub arrays_anew : (f t m : List ℕ) → f ++ (t ++ (m ++ drop 256 (drop 768 (drop 256 xs))))
+      ≡ bytes_of (with_arrays (state_in xs) f t m)
   unfolding bytes_of state_in
-  colours_anew ys = ap (λ (t : List ℕ). take 256 xs ++ (ys ++ t)) behind_colours
-
-  pub cursor_anew : (ys : List ℕ) → take 1024 xs ++ (ys ++ drop 256 (drop 1024 xs))
-      ≡ bytes_of (with_cursor (state_in xs) ys)
-  unfolding bytes_of state_in
-  cursor_anew ys =
-      ap (λ (t : List ℕ). take 1024 xs ++ (ys ++ t)) behind_cursor
-      ∙ ap (λ (f : List ℕ). f ++ (ys ++ three)) (take-add 256 768 xs)
-      ∙ append_assoc (take 256 xs) (take 768 (drop 256 xs)) (ys ++ three)
+  arrays_anew f t m = rw (drop-drop 768 256 xs, behind_cursor)
 
   -- one of the readable bytes
   readable_anew : (i byte : ℕ) → set xs (1280 + i) byte ≡ take 1280 xs ++ set three i byte

@@ -1,14 +1,14 @@
 -- A state of document 01, "The part of the chip we use", in 1,283 lent bytes: what its operations leave
 -- there.
 -- Assumes nothing.
-use Rattle.std.specs.Prelude.{◌≡◌, cond, List, [], ◌∷◌, ◌++◌, ℕ, eqb, length, get_or, take, drop, replicate}
+use Rattle.std.specs.Prelude.{◌≡◌, cond, List, [], ◌∷◌, ◌++◌, ℕ, Result, eqb, length, get_or, take, drop, replicate}
+use Rattle.reply.specs.Refusals.{reply_of}
 use Rattle.reply.specs.Reply.{done, wrong_length, wrong_request}
+use Rattle.reply.specs.declared.Refusal.{Refusal}
 use Rattle.bus.specs.Meaning.{Sized}
 use Rattle.bus.specs.States.{with_status, with_fifo, fresh_answer, bus_write}
-use Rattle.bus.specs.declared.state.Answer.{Answer}
-use Rattle.bus.specs.declared.state.ReadAnswer.{ReadAnswer}
+use Rattle.bus.specs.Answers.{Answer, ReadAnswer, told_byte}
 use Rattle.bus.specs.declared.state.State.{State}
-use Rattle.states.specs.declared.lent.Got.{Got}
 
 -- ---- a state and its bytes: the file, the colour table, the cursor map, status, chip and fifo
 
@@ -57,6 +57,13 @@ abbrev pub fifo_set : State → ℕ → Answer
 fifo_set s byte = record { state = with_fifo s byte; reply = done }
 
 -- a read's reply and byte, which is 0 beside a refusal
+pub record Got : Type 0 where
+  pub reply : ℕ
+  pub byte : ℕ
+
+abbrev pub told_got : Result ℕ Refusal → Got
+told_got r = record { reply = reply_of r; byte = told_byte r }
+
 unfoldable pub lent_read : List ℕ → ReadAnswer → Got
 lent_read bytes answer =
     if_state bytes

@@ -1,5 +1,4 @@
 // A state of the chip in lent bytes: its operations, done where the bytes lie.
 #![tactic(auto)]
 
-mod clear;
 pub mod lent;

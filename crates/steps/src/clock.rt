@@ -6,14 +6,15 @@ ghost use Rattle.scaler.specs.Limits.{clock_passes};
 use crate::standard::{SIXTY, by_standard};
 
 // F: encoder clocks in a field, at 60 Hz and at 50 Hz.
-const FIELD_60: u32 = 450450;
+const FIELD_60: u64 = 450450;
 
-const FIELD_50: u32 = 540000;
+const FIELD_50: u64 = 540000;
 
 // 2 ^ 21, the unit of PCL.
 const SCALE: u64 = 2097152;
 
 // L: the source's lines in a field, those included that are not shown.
+#[tactic(auto, unfolding(scaler::specs::Numbers::lines_of))]
 pub fn source_lines(standard: u8, inlin: u16, outlin: u16) -> u32
     requires { 0 < outlin }
     ensures { result ≡ lines_of standard inlin outlin }
@@ -24,23 +25,25 @@ pub fn source_lines(standard: u8, inlin: u16, outlin: u16) -> u32
 }
 
 // Whether a clock of so many pixels in a field is over 45 MHz.
+#[tactic(auto, unfolding(scaler::specs::Limits::clock_passes))]
 pub fn clock_passes(standard: u8, inppl: u16, lines: u32) -> bool
     ensures { result ≡ clock_passes standard inppl lines }
 {
     let most = 5 * by_standard(standard, FIELD_60, FIELD_50);
-    (most as u64) < 3 * ((inppl as u64) * (lines as u64))
+    most < 3 * ((inppl as u64) * (lines as u64))
 }
 
-// PCL. The division is by a constant in each case.
+// PCL. Two divisions and no by_standard, so that each is by a constant, which the compiler does by multiplying.
 pub fn pixel_step(standard: u8, clocks: u64) -> u32
     requires { 3 * clocks ≤ 5 * field_clocks standard }
     ensures { result ≡ clocks * 2 ^ 21 / field_clocks standard }
 {
     let scaled = clocks * SCALE;
     if standard == SIXTY {
-        let step = scaled / (FIELD_60 as u64);
-        return step as u32;
+        let step = scaled / FIELD_60;
+        step as u32
+    } else {
+        let step = scaled / FIELD_50;
+        step as u32
     }
-    let step = scaled / (FIELD_50 as u64);
-    step as u32
 }

@@ -3,7 +3,7 @@ ghost use Rattle.std.specs.Prelude.{◌≡◌, cond, ◌*◌, ◌<◌, leb};
 ghost use Rattle.scaler.specs.Numbers.{num_of, den_of};
 ghost use Rattle.steps.specs.Parts.{vertical_of};
 
-#[derive(Clone, Copy)]
+#[derive(Clone, Copy, Debug, PartialEq, Eq)]
 pub struct Vertical {
     pub yinc: u64,
     pub yiwgto: u64,
@@ -24,6 +24,7 @@ const MARGIN: u64 = 2;
 const HALF_UNIT: u64 = 2048;
 
 // N.
+#[tactic(auto, unfolding(scaler::specs::Numbers::num_of))]
 fn step_num(outlin: u16, yskip: u16) -> u64
     ensures { result ≡ num_of outlin yskip }
 {
@@ -31,6 +32,7 @@ fn step_num(outlin: u16, yskip: u16) -> u64
 }
 
 // D.
+#[tactic(auto, unfolding(scaler::specs::Numbers::den_of))]
 fn step_den(inlin: u16) -> u64
     ensures { result ≡ den_of inlin }
 {
@@ -42,10 +44,7 @@ fn half_up(rest: u64, den: u64) -> u64
     requires { rest < den }
     ensures { result ≡ cond (leb den (2 * rest)) 1 0 }
 {
-    if den - rest <= rest {
-        return 1;
-    }
-    0
+    u64::from(den - rest <= rest)
 }
 
 pub fn vertical_part(outlin: u16, inlin: u16, yskip: u16) -> Vertical
@@ -58,17 +57,18 @@ pub fn vertical_part(outlin: u16, inlin: u16, yskip: u16) -> Vertical
     let yinc = whole + half_up(rest, den);
     let yiwgto = HALF_UNIT + whole / 2;
     if (yskip as u64) <= whole {
-        return Vertical {
+        Vertical {
             yinc,
             yiwgto,
             top: whole,
             late: 0,
-        };
-    }
-    Vertical {
-        yinc,
-        yiwgto,
-        top: 3 * whole + 3 * rest / den,
-        late: 1,
+        }
+    } else {
+        Vertical {
+            yinc,
+            yiwgto,
+            top: 3 * whole + 3 * rest / den,
+            late: 1,
+        }
     }
 }

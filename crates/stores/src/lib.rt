@@ -9,32 +9,32 @@ fn store_few(file: &mut [u8], at: usize, bytes: &[u8])
     requires { (at + length bytes.now ≤ length file.old) × (length bytes.now < 4) }
     ensures { file.new ≡ sets file.old at bytes.now }
 {
-    if bytes.len() == 0 {
+    let [first, rest @ ..] = bytes else {
         return;
-    }
-    file[at] = bytes[0];
-    if bytes.len() == 1 {
+    };
+    file[at] = *first;
+    let [second, rest @ ..] = rest else {
         return;
-    }
-    file[at + 1] = bytes[1];
-    if bytes.len() == 2 {
+    };
+    file[at + 1] = *second;
+    let [third, ..] = rest else {
         return;
-    }
-    file[at + 2] = bytes[2];
+    };
+    file[at + 2] = *third;
 }
 
-// Each byte of a run replaces what its place held. The run must lie in the file.
+// Each byte of a run replaces what its place held. The run must lie in the file: a place and no part of it, as its
+// callers have a place. A loop, since copy_from_slice would need memmove of the C library, and the archive for C
+// takes nothing from it but memset.
 pub fn store_run(file: &mut [u8], at: usize, bytes: &[u8])
     requires { at + length bytes.now ≤ length file.old }
     ensures { file.new ≡ sets file.old at bytes.now }
 {
     if bytes.len() < 4 {
         store_few(file, at, bytes);
-        return;
-    }
-    let mut i = 0;
-    while i < bytes.len() {
-        file[at + i] = bytes[i];
-        i += 1;
+    } else {
+        for (i, &byte) in bytes.iter().enumerate() {
+            file[at + i] = byte;
+        }
     }
 }

@@ -1,15 +1,13 @@
 // put_values and get_values: a number for each of the picture's fields, in this order, put into a lent file
 // or got from it. Leaves for other crates: the file must have its 256 bytes. Each field is named once, by
 // where its bits stand, so that both go to the same bits.
-#![tactic(auto)]
+#![tactic(auto, unfolding(chip::specs::Fields::picture_fields, fields::specs::Fields::get_all, fields::specs::Fields::put_all))]
 
-ghost use Rattle.std.specs.Prelude.{◌≡◌, length, take, drop};
+ghost use Rattle.std.specs.Prelude.{◌≡◌, length};
 ghost use Rattle.fields.specs.Fields.{get_all, put_all};
 ghost use Rattle.chip.specs.Fields.{picture_fields};
 
-use fields::field::{
-    Bits, Split, Three, get_bits, get_split, get_three, put_bits, put_split, put_three,
-};
+use fields::field::{Bits, Field, Split, Three};
 
 const FISE: Bits = Bits(0x61, 0, 1);
 
@@ -46,79 +44,51 @@ const YIWGTE: Split = Split(0x9E, 0x9F, 4, 4);
 
 const YSKIP: Split = Split(0xA0, 0xA1, 0, 4);
 
-// The window on the monitor, and the pixel clock.
-fn put_window(file: &mut [u8], values: &[u32])
-    requires { (length file.old ≡ 256) × (length values.now ≡ 17) }
-    ensures { file.new
-        ≡ put_all file.old (take 6 picture_fields) values.now }
-{
-    put_bits(file, FISE, values[0]);
-    put_split(file, ADWHS, values[1]);
-    put_split(file, ADWHE, values[2]);
-    put_split(file, FAL, values[3]);
-    put_split(file, LAL, values[4]);
-    put_three(file, PCL, values[5]);
-}
-
-// The source's picture.
-fn put_source(file: &mut [u8], values: &[u32])
-    requires { (length file.old ≡ 256) × (length values.now ≡ 17) }
-    ensures { file.new
-        ≡ put_all file.old (take 6 (drop 6 picture_fields)) (drop 6 values.now) }
-{
-    put_split(file, XOFS, values[6]);
-    put_split(file, XPIX, values[7]);
-    put_split(file, YOFSO, values[8]);
-    put_split(file, YOFSE, values[9]);
-    put_split(file, YPIX, values[10]);
-    put_split(file, HLEN, values[11]);
-}
-
-// The scaler's steps and weights.
-fn put_scale(file: &mut [u8], values: &[u32])
-    requires { (length file.old ≡ 256) × (length values.now ≡ 17) }
-    ensures { file.new
-        ≡ put_all file.old (drop 12 picture_fields) (drop 12 values.now) }
-{
-    put_split(file, XINC, values[12]);
-    put_split(file, YINC, values[13]);
-    put_split(file, YIWGTO, values[14]);
-    put_split(file, YIWGTE, values[15]);
-    put_split(file, YSKIP, values[16]);
-}
-
-// Every number into its field.
-pub fn put_values(file: &mut [u8], values: &[u32])
-    requires { (length file.old ≡ 256) × (length values.now ≡ 17) }
+// Every number into its field. By place, since a pattern of seventeen names says the same in twice the lines.
+pub fn put_values(file: &mut [u8], values: &[u32; 17])
+    requires { length file.old ≡ 256 }
     ensures { file.new ≡ put_all file.old picture_fields values.now }
 {
-    put_window(file, values);
-    put_source(file, values);
-    put_scale(file, values);
+    FISE.put(file, values[0]);
+    ADWHS.put(file, values[1]);
+    ADWHE.put(file, values[2]);
+    FAL.put(file, values[3]);
+    LAL.put(file, values[4]);
+    PCL.put(file, values[5]);
+    XOFS.put(file, values[6]);
+    XPIX.put(file, values[7]);
+    YOFSO.put(file, values[8]);
+    YOFSE.put(file, values[9]);
+    YPIX.put(file, values[10]);
+    HLEN.put(file, values[11]);
+    XINC.put(file, values[12]);
+    YINC.put(file, values[13]);
+    YIWGTO.put(file, values[14]);
+    YIWGTE.put(file, values[15]);
+    YSKIP.put(file, values[16]);
 }
 
 // The number of every field.
-pub fn get_values(file: &[u8]) -> [u32; 17]
-    requires { length file.now ≡ 256 }
+pub fn get_values(file: &[u8; 256]) -> [u32; 17]
     ensures { result ≡ get_all file.now picture_fields }
 {
     [
-        get_bits(file, FISE),
-        get_split(file, ADWHS),
-        get_split(file, ADWHE),
-        get_split(file, FAL),
-        get_split(file, LAL),
-        get_three(file, PCL),
-        get_split(file, XOFS),
-        get_split(file, XPIX),
-        get_split(file, YOFSO),
-        get_split(file, YOFSE),
-        get_split(file, YPIX),
-        get_split(file, HLEN),
-        get_split(file, XINC),
-        get_split(file, YINC),
-        get_split(file, YIWGTO),
-        get_split(file, YIWGTE),
-        get_split(file, YSKIP),
+        FISE.get(file),
+        ADWHS.get(file),
+        ADWHE.get(file),
+        FAL.get(file),
+        LAL.get(file),
+        PCL.get(file),
+        XOFS.get(file),
+        XPIX.get(file),
+        YOFSO.get(file),
+        YOFSE.get(file),
+        YPIX.get(file),
+        HLEN.get(file),
+        XINC.get(file),
+        YINC.get(file),
+        YIWGTO.get(file),
+        YIWGTE.get(file),
+        YSKIP.get(file),
     ]
 }

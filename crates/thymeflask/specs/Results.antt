@@ -2,8 +2,8 @@
 -- Assumes nothing.
 use Rattle.std.specs.Prelude.{cond, List, ℕ, ◌+◌, ◌*◌, ◌/◌, ◌%◌, length}
 use Rattle.cursor.specs.Cursor.{has_row}
-use Rattle.plan.specs.declared.plan.Planned.{Planned}
-use Rattle.states.specs.declared.lent.Got.{Got}
+use Rattle.plan.specs.Plan.{Planned}
+use Rattle.states.specs.Lent.{Got}
 
 -- a read: the reply in bits 0 to 7, the byte in bits 8 to 15
 unfoldable pub read_result : Got → ℕ

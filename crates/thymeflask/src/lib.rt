@@ -1,4 +1,5 @@
-// The C interface: each function takes what is lent as a pointer and a length, and asks nothing of its bytes.
+// The C interface: each function takes what is lent as a pointer and a length, and asks nothing of its bytes. Each
+// answers a number, as C has no Result.
 #![tactic(auto)]
 
 pub mod pictures;

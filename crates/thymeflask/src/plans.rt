@@ -15,6 +15,8 @@ pub extern "C" fn thymeflask_plan(from: &[u8], to: &[u8], out: &mut [u8]) -> u64
     ensures { PlanMeans from.now to.now out.old
         (planned_in result) out.new }
 {
-    let planned = plan(from, to, out);
-    (planned.reply as u64) + BYTES * (planned.bytes as u64) + BURSTS * (planned.bursts as u64)
+    match plan(from, to, out) {
+        Ok(planned) => BYTES * (planned.bytes as u64) + BURSTS * (planned.bursts as u64),
+        Err(refusal) => u64::from(u8::from(refusal)),
+    }
 }

@@ -9,12 +9,14 @@ const ROW: usize = 8;
 
 // Where a row begins in the map; the map's length for none.
 #[unsafe(no_mangle)]
+#[tactic(auto, using(crate::proofs::Empty::no_row, crate::proofs::Empty::some_row), unfolding(crate::specs::Results::row_place))]
 pub extern "C" fn thymeflask_cursor_row(map: &[u8], row: u32) -> usize
     ensures { result ≡ row_place map.now row }
 {
     let part = cursor_row(map, row as usize);
-    if part.len() == 0 {
-        return map.len();
+    if part.is_empty() {
+        map.len()
+    } else {
+        ROW * (row as usize)
     }
-    ROW * (row as usize)
 }

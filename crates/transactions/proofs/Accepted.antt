@@ -9,13 +9,13 @@ use native.Mathlib.Nat.{div-add-mod, mul-le-mul_left}
 use native.Mathlib.Omega.{arith}
 use borrow.Author.Tests.{ltb-false, eqb-true, not-false, eq-eqb, ne_eqb}
 use lib.Dec.{eqb, ltb}
-use lib.ListN.{length, get_or, drop, length-drop}
+use lib.ListN.{length, get_or, take, drop, length-drop}
 use Rattle.bits.proofs.Tests.{or_left, or_right, or_in, is_false}
 use Rattle.reply.specs.Reply.{applies}
 use Rattle.transactions.specs.Writes.{registers_pass, cells_pass, passes, write_tests, write_reply}
 use Rattle.transactions.specs.Reads.{read_tests, read_reply}
 use Rattle.transactions.proofs.Meaning.{replies_mean}
-use Rattle.transactions.proofs.Starts.{some_start}
+use Rattle.transactions.proofs.Starts.{some_start, tail_part}
 
 -- ---- writes
 
@@ -47,6 +47,19 @@ module _ (subaddress : ℕ) (bytes : List ℕ) (e : passes subaddress bytes ≡ 
       ≡ false
   unfolding passes
   registers_fit n h = rw (ne_eqb subaddress 0xFE n, ne_eqb subaddress 0xFF h) at e
+
+-- the same of a whole transaction, whose data is the part from its third byte on
+module _ (t : List ℕ) (e : write_reply t ≡ 0) where
+  pub cursor_accepted : get_or t 1 0 ≡ 0xFE → cells_pass 1 (take (length t - 2) (drop 2 t)) ≡ false
+  cursor_accepted h = rw tail_part (cursor_fits (get_or t 1 0) (drop 2 t) (accepted t e).fits h)
+
+  pub colours_accepted : get_or t 1 0 ≡ 0xFF → cells_pass 3 (take (length t - 2) (drop 2 t)) ≡ false
+  colours_accepted h =
+      rw tail_part (colours_fit (get_or t 1 0) (drop 2 t) (accepted t e).fits (λ k. omega arith) h)
+
+  pub registers_accepted : (get_or t 1 0 ≡ 0xFE → ⊥) → (get_or t 1 0 ≡ 0xFF → ⊥)
+      → registers_pass (get_or t 1 0) (take (length t - 2) (drop 2 t)) ≡ false
+  registers_accepted n m = rw tail_part (registers_fit (get_or t 1 0) (drop 2 t) (accepted t e).fits n m)
 
 -- ---- runs that do not pass their end
 

@@ -4,16 +4,9 @@ use mathlib.Core.Path.{◌≡◌, refl}
 use mathlib.Core.List.{List, [], ◌∷◌}
 use Prim.Native.Nat.{ℕ, ◌-◌, ◌<◌}
 use native.Mathlib.Nat.{not-suc-le-zero, le_refl}
-use native.Mathlib.Omega.{arith}
 use lib.ListN.{length, get_or, take, drop, length-drop}
 use lib.Seq.{take_all}
 use Rattle.transactions.specs.Writes.{from_start}
-
-pub no_start : {A : Type 0} (none : A) (some : ℕ → List ℕ → A) (l : List ℕ) → length l ≡ 0
-    → from_start none some l ≡ none
-unfolding from_start
-no_start none some [] e = refl
-no_start none some (x ∷ l) e = absurd (omega arith)
 
 pub some_start : {A : Type 0} (none : A) (some : ℕ → List ℕ → A) (l : List ℕ) → 0 < length l
     → from_start none some l ≡ some (get_or l 0 0) (drop 1 l)

@@ -2,7 +2,7 @@
 -- one byte. The readable places are those of source document 003, Table 105.
 -- Assumes nothing.
 use Rattle.std.specs.Prelude.{Bool, cond, not, ◌||◌, List, [], ◌∷◌, ℕ, eqb, length, get_or}
-use Rattle.reply.specs.Reply.{lowest, wrong_length, wrong_address, not_readable}
+use Rattle.reply.specs.Reply.{lowest, done, wrong_length, wrong_address, not_readable}
 use Rattle.transactions.specs.Writes.{write_address}
 
 abbrev pub read_address : ℕ
@@ -34,3 +34,7 @@ read_reply t = lowest (read_tests t)
 -- the byte at a readable place, of the three
 unfoldable pub byte_of : ℕ → ℕ → ℕ → ℕ → ℕ
 byte_of status chip fifo place = cond (eqb place status_at) status (cond (eqb place chip_at) chip fifo)
+
+-- what a read gives, of the three readable bytes: 0 beside a refusal
+abbrev pub byte_read : ℕ → ℕ → ℕ → List ℕ → ℕ
+byte_read status chip fifo t = cond (eqb (read_reply t) done) (byte_of status chip fifo (get_or t 1 0)) 0

@@ -5,5 +5,5 @@ pub fn start_of(bytes: &[u8]) -> usize
     requires { 0 < length bytes.now }
     ensures { (result ≡ get_or bytes.now 0 0) × (result < 256) }
 {
-    bytes[0] as usize
+    usize::from(bytes[0])
 }

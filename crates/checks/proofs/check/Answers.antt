@@ -2,46 +2,46 @@
 -- gives the numbers.
 -- Assumes nothing.
 use mathlib.Core.Path.{◌≡◌, sym, ◌∙◌}
-use Prim.Native.Nat.{ℕ}
 use borrow.Author.Tests.{ne_eqb}
+use Rattle.std.proofs.lemmas.Result.{err_from_is_err_and}
+use Rattle.reply.specs.Refusals.{number_of}
+use Rattle.reply.specs.declared.Refusal.{Refusal}
+use Rattle.reply.proofs.Refusals.{not_done}
 use Rattle.scaler.specs.Answer.{refusal, checked}
 use Rattle.scaler.specs.Limits.{request_reply}
 use Rattle.limits.specs.Replies.{limits_reply}
 use Rattle.scaler.specs.declared.request.Request.{Request}
-use Rattle.limits.proofs.Replies.{by_limits, scaled_reply, scaled_parts}
-use Rattle.checks.proofs.check.Goals.{After-scale-scaled}
+use Rattle.limits.proofs.Replies.{by_limits, scaled_reply}
 use Rattle.checks.proofs.check.Goals as goal
 
-refused-is : (q : Request) (r : ℕ) → request_reply q ≡ r → (r ≡ 0 → ⊥) → checked q ≡ refusal r
+refused : (q : Request) (r : Refusal) → number_of r ≡ request_reply q → refusal (number_of r) ≡ checked q
 unfolding checked
-refused-is q r e n = rw (e, ne_eqb r 0 n)
+refused q r e = rw (sym e, ne_eqb (number_of r) 0 (not_done r))
 
--- what the second step told, where the first did not refuse
-module _ (c : After-scale-scaled) where
-  abbrev q : Request
-  q = c.args.request
+pub returns-in_err-limits_reply : goal.returns-in_err-limits_reply
+returns-in_err-limits_reply c =
+    let q = c.args.request in
+    let p = err_from_is_err_and c.from_residual.result c.from_residual.ensures.1 in
+    let r = c.in_err-limits_reply.field-0.0 in
+    let e : number_of r ≡ limits_reply q = c.in_err-limits_reply.ensures in
+    rw (p.1, p.2) (refused q r (e ∙ sym (by_limits q (λ z. not_done r (e ∙ z)))))
 
-  replied : c.scale-scaled.result.reply ≡ request_reply q
-  replied =
-      scaled_reply q c.scale-scaled.result c.scale-scaled.ensures
-      (sym c.limits_reply-reply.ensures ∙ c.if-reply-ne-DONE.false)
-
-pub returns-then-reply-ne-DONE : goal.returns-then-reply-ne-DONE
-returns-then-reply-ne-DONE c = let q = c.args.request in
-    let n : limits_reply q ≡ 0 → ⊥ = λ z. c.if-reply-ne-DONE.true (c.limits_reply-reply.ensures ∙ z) in
-    rw (c.refused.ensures, c.limits_reply-reply.ensures) (sym (refused-is q (limits_reply q) (by_limits q n) n))
-
-pub scale-scaled-requires : goal.scale-scaled-requires
-scale-scaled-requires c = sym c.limits_reply-reply.ensures ∙ c.if-reply-ne-DONE.false
-
-pub returns-then-scaled-ne-DONE : goal.returns-then-scaled-ne-DONE
-returns-then-scaled-ne-DONE c = rw c.refused-then-scaled-ne-DONE.ensures
-    (sym (refused-is (q (goal.at.returns-then-scaled-ne-DONE c).After-scale-scaled) c.scale-scaled.result.reply (sym (replied (goal.at.returns-then-scaled-ne-DONE c).After-scale-scaled)) c.if-scaled-ne-DONE.true))
+pub returns-in_err-scaled : goal.returns-in_err-scaled
+returns-in_err-scaled c =
+    let q = c.args.request in
+    let f = c.from_residual-in_err-scaled in
+    let p = err_from_is_err_and f.result f.ensures.1 in
+    let e = scaled_reply q _ c.in_err-scaled.ensures.told (sym c.in_ok-limits_reply.ensures) in
+    rw (p.1, p.2) (refused q c.in_err-scaled.field-0.0 e)
 
 pub numbers-requires : goal.numbers-requires
-numbers-requires c = let p = scaled_parts (q (goal.at.numbers-requires c).After-scale-scaled) c.scale-scaled.result c.scale-scaled.ensures in
-    (sym (replied (goal.at.numbers-requires c).After-scale-scaled) ∙ c.if-scaled-ne-DONE.false, p.0, p.1)
+numbers-requires c =
+    let s = c.in_ok-scaled.ensures in
+    rw s.of (sym (scaled_reply c.args.request _ s.told (sym c.in_ok-limits_reply.ensures)))
 
 pub returns : goal.returns
 unfolding checked
-returns c = rw (c.numbers.ensures, sym (replied (goal.at.returns c).After-scale-scaled) ∙ c.if-scaled-ne-DONE.false)
+returns c =
+    let s = c.in_ok-scaled.ensures in
+    let e = scaled_reply c.args.request _ s.told (sym c.in_ok-limits_reply.ensures) in
+    rw (sym e, c.numbers.ensures, s.of)

@@ -1,9 +1,7 @@
--- `stores::store_run` meets its contract: what is left of the run gives the whole. The measure is what
--- is left of the bytes.
+-- `stores::store_run` meets its contract: what is left of the run gives the whole.
 -- Assumes nothing.
 use mathlib.Core.Path.{refl, ◌∙◌}
 use Prim.Native.Nat.{ℕ}
-use native.Mathlib.Nat.{add-zero}
 use borrow.Author.Rules.{rules}
 use lib.Seq.{sets}
 use Rattle.bits.proofs.Runs.{turn_next, turn_last}
@@ -13,23 +11,16 @@ use Rattle.stores.proofs.store_run.Goals as goal
 abbrev stored : ℕ → ℕ → ℕ → ℕ
 stored p old b = b
 
-pub returns-then-bytes-lt4 : goal.returns-then-bytes-lt4
-returns-then-bytes-lt4 c = c.store_few.ensures
-
-pub loop-i-init : goal.loop-i-init
-loop-i-init c = (search rules, search rules, rw add-zero)
-
 pub loop-i-preserved : goal.loop-i-preserved
 loop-i-preserved c = let l = c.loop-i in
     let a = c.args in (
       search rules,
-      search rules,
       turn_next sets stored (λ f a. refl) (λ f a b bs. refl) l.file a.at a.bytes.now l.i
-          (search rules) ∙ l.invariant.2,
+          (search rules) ∙ l.invariant.1,
     )
 
-pub returns : goal.returns
-returns c = let l = c.loop-i in
+pub returns-after-loop-i : goal.returns-after-loop-i
+returns-after-loop-i c = let l = c.loop-i in
     let a = c.args in
     turn_last sets stored (λ f a. refl) (λ f a b bs. refl) l.file a.at a.bytes.now l.i
-    (search rules) ∙ l.invariant.2
+    (search rules) ∙ l.invariant.1

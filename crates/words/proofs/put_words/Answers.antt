@@ -1,33 +1,31 @@
--- `words::put_words` meets its contract: what is left of the numbers gives the whole.
+-- `words::put_words` meets its contract: the next number's bytes stand behind those before it.
 -- Assumes nothing.
-use mathlib.Core.Path.{◌≡◌, refl, ◌∙◌}
-use Prim.Native.Nat.{◌*◌}
-use native.Mathlib.Omega.{arith}
-use borrow.Author.Rules.{rules}
-use lib.ListN.{length, drop}
-use lib.Seq.{sets, drop-length}
-use Rattle.words.specs.Words.{words_of}
-use Rattle.words.proofs.Turns.{next_word, last_word}
+use Rattle.std.proofs.Common.{take, ◌≡◌, ◌+◌, ◌*◌, length, arith, refl, sym, ap, ◌∙◌}
+use Rattle.std.proofs.Math.Seq.{take-length}
+use Rattle.std.proofs.lemmas.Slice.{take-put_mid}
+use Rattle.words.specs.Words.{word_bytes, words_of}
+use Rattle.words.proofs.Turns.{next_word}
 use Rattle.words.proofs.put_words.Goals as goal
 
 pub loop-i-init : goal.loop-i-init
-loop-i-init c = (search rules, search rules, refl)
+unfolding words_of
+loop-i-init c = refl
 
 pub loop-i-preserved : goal.loop-i-preserved
-loop-i-preserved c = let w = c in
-    let vs = w.args.values.now in (
-      search rules,
-      search rules,
-      rw c.put_word.ensures
-          (next_word w.loop-i.bytes vs w.loop-i.i (search rules) ∙ w.loop-i.invariant.2),
-    )
+unfolding word_bytes
+loop-i-preserved c = let i = c.loop-i.i in
+    let vs = c.args.values.now in
+    let ys = c.copy_from_slice.new.self in
+    let e = c.copy_from_slice.ensures.after ∙ c.to_le_bytes.ensures in
+    let n = ap length e in
+    take-put_mid (4 * i) _ c.loop-i.bytes ys (4 * (i + 1)) (omega arith) (omega arith)
+    ∙ rw (c.loop-i.invariant, e) (sym (next_word vs i c.loop-i-test.true))
 
 pub returns : goal.returns
-unfolding words_of
-returns c = let w = c in
-    let a = w.args in
-    let vs = a.values.now in
-    let e : w.loop-i.i ≡ length vs = omega (arith, w.loop-i.invariant.0, c.loop-i-test.false) in
-    let h : sets w.loop-i.bytes (4 * length vs) (words_of (drop (length vs) vs))
-    ≡ sets a.bytes.now 0 (words_of vs) = rw e at w.loop-i.invariant.2 in
-    rw (drop-length vs) at h ∙ last_word a.bytes.now vs w.requires
+returns c = let bytes = c.loop-i.bytes in
+    let vs = c.args.values.now in
+    let i : c.loop-i.i ≡ length vs = omega arith in
+    let n : 4 * c.loop-i.i ≡ length bytes = omega arith in
+    let whole : take (4 * c.loop-i.i) bytes ≡ bytes = rw n (take-length bytes) in
+    let all : take c.loop-i.i vs ≡ vs = rw i (take-length vs) in
+    sym whole ∙ (c.loop-i.invariant ∙ ap words_of all)

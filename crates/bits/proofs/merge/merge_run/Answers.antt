@@ -1,25 +1,19 @@
--- `bits::merge::merge_run` meets its contract: what is left of the run gives the whole, under the masks. The
--- measure is what is left of the bytes.
+-- `bits::merge::merge_run` meets its contract: what is left of the run gives the whole, under the masks.
 -- Assumes nothing.
 use mathlib.Core.Path.{◌∙◌}
-use native.Mathlib.Nat.{add-zero}
 use borrow.Author.Rules.{rules}
 use Rattle.bits.specs.Run.{merge_run}
 use Rattle.bits.proofs.Runs.{turn_next, turn_last, masked, run_none, run_more}
 use Rattle.bits.proofs.merge.merge_run.Goals as goal
-
-pub loop-i-init : goal.loop-i-init
-loop-i-init c = (search rules, search rules, rw add-zero)
 
 pub loop-i-preserved : goal.loop-i-preserved
 loop-i-preserved c = let l = c.loop-i in
     let a = c.args in
     let m = a.masks.now in (
       search rules,
-      search rules,
       rw c.merge_byte.ensures
           (turn_next (merge_run m) (masked m) (run_none m) (run_more m) l.file a.at a.bytes.now
-          l.i (search rules) ∙ l.invariant.2),
+          l.i (search rules) ∙ l.invariant.1),
     )
 
 pub returns : goal.returns
@@ -27,4 +21,4 @@ returns c = let l = c.loop-i in
     let a = c.args in
     let m = a.masks.now in
     turn_last (merge_run m) (masked m) (run_none m) (run_more m) l.file a.at a.bytes.now l.i
-    (search rules) ∙ l.invariant.2
+    (search rules) ∙ l.invariant.1

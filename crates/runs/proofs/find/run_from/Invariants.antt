@@ -5,7 +5,7 @@ use Rattle.runs.proofs.Opening.{Open}
 use Rattle.runs.proofs.find.run_from.Given as goal
 
 abbrev pub invariant-loop-next : goal.invariant-loop-next
-invariant-loop-next l = Open l.from l.to l.start l.end l.next
+invariant-loop-next l = Open l.files.from.now l.files.to.now l.start l.end l.next
 
 abbrev pub decreases-loop-next : goal.decreases-loop-next
 decreases-loop-next l = 256 - l.next

@@ -2,12 +2,8 @@
 -- Assumes nothing.
 use mathlib.Core.Path.{◌≡◌}
 use mathlib.Core.Bool.{◌||◌}
-use Prim.Native.Nat.{◌-◌}
 use Rattle.runs.specs.Found.{stuck_at}
 use Rattle.runs.proofs.fixed.any_fixed.Given as goal
 
 abbrev pub invariant-loop-p : goal.invariant-loop-p
-invariant-loop-p l = stuck_at l.from l.to 0 ≡ (l.fixed || stuck_at l.from l.to l.p)
-
-abbrev pub decreases-loop-p : goal.decreases-loop-p
-decreases-loop-p l = 256 - l.p
+invariant-loop-p l = stuck_at l.files.from.now l.files.to.now 0 ≡ (l.fixed || stuck_at l.files.from.now l.files.to.now l.p)

@@ -61,8 +61,8 @@ returns-then-yskip-whole c = rw (c.half_up.ensures, ← c.step_num-num.ensures, 
 pub overflow_mul-result : goal.overflow_mul-result
 overflow_mul-result c = omega (arith, (known (goal.at.overflow_mul-result c).After-step_den-den).quotient)
 
-pub overflow_mul-result-2 : goal.overflow_mul-result-2
-overflow_mul-result-2 c = omega (arith, (known (goal.at.overflow_mul-result-2 c).After-step_den-den).rest, (known (goal.at.overflow_mul-result-2 c).After-step_den-den).narrow)
+pub overflow_mul-result-else-yskip-whole : goal.overflow_mul-result-else-yskip-whole
+overflow_mul-result-else-yskip-whole c = omega (arith, (known (goal.at.overflow_mul-result-else-yskip-whole c).After-step_den-den).rest, (known (goal.at.overflow_mul-result-else-yskip-whole c).After-step_den-den).narrow)
 
 pub nonzero_div-result : goal.nonzero_div-result
 nonzero_div-result c = (known (goal.at.nonzero_div-result c).After-step_den-den).positive
@@ -72,7 +72,7 @@ overflow_add-result c = let d = c.step_den-den.result in
     let r = c.step_num-num.result % d in
     omega (arith, (known (goal.at.overflow_add-result c).After-step_den-den).quotient, (known (goal.at.overflow_add-result c).After-step_den-den).rest, (known (goal.at.overflow_add-result c).After-step_den-den).narrow, div-le_self (3 * r) d)
 
-pub returns : goal.returns
-returns c = rw (c.half_up.ensures, ← c.step_num-num.ensures, ← c.step_den-den.ensures)
-    (sym (vertical_late c.step_num-num.result c.step_den-den.result _ (known (goal.at.returns c).After-step_den-den).positive
+pub returns-else-yskip-whole : goal.returns-else-yskip-whole
+returns-else-yskip-whole c = rw (c.half_up.ensures, ← c.step_num-num.ensures, ← c.step_den-den.ensures)
+    (sym (vertical_late c.step_num-num.result c.step_den-den.result _ (known (goal.at.returns-else-yskip-whole c).After-step_den-den).positive
     c.if-yskip-whole.false))

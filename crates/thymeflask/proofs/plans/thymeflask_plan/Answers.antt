@@ -1,9 +1,13 @@
 -- `thymeflask::plans::thymeflask_plan` meets its contract: the three numbers of the answer share one.
 -- Assumes nothing.
-use borrow.Author.Rules.{rules}
-use Rattle.thymeflask.proofs.Packing.{packed_means}
+use native.Mathlib.Omega.{arith}
+use Rattle.plan.specs.Plan.{refusal}
+use Rattle.thymeflask.proofs.Packing.{number_small, packed_means}
 use Rattle.thymeflask.proofs.plans.thymeflask_plan.Goals as goal
 
-pub returns : goal.returns
-returns c = let p = c.plan-planned in
-    packed_means _ _ _ _ p.result p.ensures (search rules)
+pub returns-in-Ok : goal.returns-in-Ok
+returns-in-Ok c = packed_means _ _ _ _ _ _ c.in-Ok.ensures (omega arith) (omega arith)
+
+pub returns-in-Err : goal.returns-in-Err
+unfolding refusal
+returns-in-Err c = packed_means _ _ _ _ _ _ c.in-Err.ensures (number_small c.in-Err.refusal) (omega arith)
