@@ -8,7 +8,8 @@ use scaler::request::{PixelClocks, Request};
 
 pub mod put;
 
-// A function and no From, as put_request is: neither type is this crate's own.
+// A function and no From, as put_request and request_bytes are: neither type is this crate's own, and scaler, which has
+// Request, lies below the meaning of the bytes.
 pub fn request_of(body: &[u8]) -> Request
     requires { length body.now ≡ 18 }
     ensures { result ≡ request_of body.now }

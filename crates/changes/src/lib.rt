@@ -11,7 +11,8 @@ use chip::file::FILE_LENGTH;
 // Eight places are compared at once: joined by `&`, the tests are one comparison of words.
 const WIDE: usize = 8;
 
-// Whether two runs of bytes agree at a place and the three behind it.
+// Whether two runs of bytes agree at a place and the three behind it. Beside same_eight, which is two of it, as `runs`
+// asks for the four caption bytes.
 pub fn same_four(from: &[u8], to: &[u8], p: usize) -> bool
     requires { (p + 4 ≤ length from.now) × (p + 4 ≤ length to.now) }
     ensures { result ≡ same_four from.now to.now p }

@@ -13,7 +13,7 @@ const LINE_END: u8 = 0x0A;
 // The character of 0, with those of 1 to 9 behind it.
 const ZERO: u8 = 0x30;
 
-// The character of a digit: 0 to 9, then a to f. By hand: format strings take 200 instructions a line, where a whole
+// The character of a digit: 0 to 9, then a to f. By hand: format strings take 212 instructions a line, where a whole
 // record of a session takes 63.
 fn character(digit: u8) -> u8
     requires { digit < 16 }

@@ -6,7 +6,7 @@ ghost use Rattle.records.specs.Told.{told_step, HoldsBody};
 use crate::kind::Kind;
 use crate::record::Record;
 
-// What stands at a place of a session.
+// What stands at a place of a session. An enum of its own, since Option and Result have two cases.
 #[derive(Clone, Copy, Debug, PartialEq, Eq)]
 pub enum Step<'a> {
     // A whole record, and where the next one begins.
@@ -17,6 +17,7 @@ pub enum Step<'a> {
     End,
 }
 
+// A session and a place and no Reader: the customer's paper has the functions over the reader thin.
 pub fn record_at<'a>(session: &'a [u8], at: usize) -> Step<'a>
     ensures step { told_step result ≡ record_at session.now at }
     ensures body { HoldsBody session.now result }

@@ -20,6 +20,7 @@ const HEADING: usize = 2;
 pub const MOST: usize = FILE_LENGTH / 2;
 
 // Where a run ends, and the next changed place behind it, or the file's length, as next_change has it.
+// Two places and no range: what lies between them matters too.
 #[derive(Clone, Copy)]
 pub struct Extent {
     pub end: usize,

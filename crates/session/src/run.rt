@@ -17,7 +17,7 @@ const LONGEST_SESSION: usize = 16384;
 
 const LONGEST_PRINT: usize = 65536;
 
-// The chip byte of the SAA7103.
+// The chip byte of the SAA7103. A byte, as State::fresh answers for any.
 const SAA7103: u8 = 0x03;
 
 // The next state, and how many bytes were printed.

@@ -44,7 +44,8 @@ const YIWGTE: Split = Split(0x9E, 0x9F, 4, 4);
 
 const YSKIP: Split = Split(0xA0, 0xA1, 0, 4);
 
-// Every number into its field. By place, since a pattern of seventeen names says the same in twice the lines.
+// Every number into its field. By place, since a pattern of seventeen names says the same in twice the lines. The
+// file is a slice, as `Field` asks for one.
 pub fn put_values(file: &mut [u8], values: &[u32; 17])
     requires { length file.old ≡ 256 }
     ensures { file.new ≡ put_all file.old picture_fields values.now }
