@@ -123,3 +123,15 @@ impl State {
         ReadAnswer { state: self, byte }
     }
 }
+
+impl ReadAnswer {
+    // The reply, and the byte, 0 beside a refusal.
+    pub fn numbers(&self) -> (u8, u8)
+        ensures { told_read self.now ≡ record { state = self.now.state; reply = result.0; byte = result.1 } }
+    {
+        match self.byte {
+            Ok(byte) => (0, byte),
+            Err(refusal) => (u8::from(refusal), 0),
+        }
+    }
+}

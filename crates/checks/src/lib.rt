@@ -56,6 +56,39 @@ pub fn check(request: Request) -> Result<Fields, Refusal>
     ensures { told_check result ≡ checked request }
 {
     limits_reply(request)?;
-    let scaled = scale(request)?;
-    Ok(numbers(&scaled))
+    let answer = scale(request);
+    answer.reply?;
+    Ok(numbers(&answer.scaled))
+}
+
+// An answer by its numbers: the reply, and the fields' numbers, all 0 beside a refusal.
+#[tactic(auto, unfolding(scaler::specs::Answer::refusal, scaler::specs::Answer::no_fields))]
+pub fn numbers_of(answer: Result<Fields, Refusal>) -> (u8, Fields)
+    ensures { told_check answer ≡ record { reply = result.0; fields = result.1 } }
+{
+    match answer {
+        Ok(fields) => (0, fields),
+        Err(refusal) => (
+            u8::from(refusal),
+            Fields {
+                fise: 0,
+                adwhs: EncoderClocks(0),
+                adwhe: EncoderClocks(0),
+                fal: 0,
+                lal: 0,
+                pcl: 0,
+                xofs: PixelClocks(0),
+                xpix: 0,
+                yofso: 0,
+                yofse: 0,
+                ypix: 0,
+                hlen: PixelClocks(0),
+                xinc: 0,
+                yinc: 0,
+                yiwgto: 0,
+                yiwgte: 0,
+                yskip: 0,
+            },
+        ),
+    }
 }

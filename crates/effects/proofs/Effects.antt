@@ -1,6 +1,6 @@
 -- What a record of each kind does, in the parts of a state.
 -- Assumes nothing.
-use mathlib.Core.Path.{◌≡◌, refl, sym, ap, ◌∙◌}
+use mathlib.Core.Path.{◌≡◌, refl, ap, ◌∙◌}
 use mathlib.Core.Bool.{false}
 use mathlib.Core.List.{List, [], ◌∷◌}
 use Prim.Native.Nat.{ℕ, suc, ◌+◌, ◌<◌, ◌≤◌}
@@ -47,13 +47,6 @@ last_kind kind body b one two three four =
     by : ((kind ≡ 5 → ⊥) → ⊥) → Dec (kind ≡ 5) → kind ≡ 5
     by f (yes e) = e
     by f (no n) = absurd (f n)
-
--- the outcome of a record in code, from what the record of its number does
-pub did : (s : State) (kind k : ℕ) (body : List ℕ) → kind ≡ k → (reply : ℕ) (file' colours' cursor' : List ℕ)
-    → Does k body s.file s.colours s.cursor reply file' colours' cursor'
-    → record { state = in_parts file' colours' cursor' s.status s.chip s.fifo; reply = reply } ≡ outcome s kind body
-did s kind k body e reply file' colours' cursor' d =
-    sym (ap (λ n. outcome s n body) e ∙ d.outcome_is s.status s.chip s.fifo)
 
 -- ---- 01
 

@@ -1,22 +1,15 @@
 -- What code answers to a request in the second step.
 -- Assumes nothing.
-use Rattle.std.specs.Prelude.{◌≡◌, Result, Ok, Err}
-use Rattle.reply.specs.Refusals.{told}
-use Rattle.reply.specs.Reply.{done}
-use Rattle.reply.specs.declared.Refusal.{Refusal}
-use Rattle.scaler.specs.Limits.{lines_for}
+use Rattle.std.specs.Prelude.{◌≡◌}
+use Rattle.reply.specs.Refusals.{reply_of}
 use Rattle.scaler.specs.declared.request.Request.{Request}
-use Rattle.steps.specs.Parts.{vertical_for}
-use Rattle.limits.specs.Replies as replies
-use Rattle.limits.specs.declared.scaled.Scaled.{Scaled}
+use Rattle.limits.specs.Replies.{Scaled}
+use Rattle.limits.specs.declared.scale.Answer.{Answer}
 
--- the reply, with what is handed on, or, beside a refusal, what the request has
-abbrev pub told_scale : Request → Result Scaled Refusal → replies.Scaled
-told_scale q =
-    told (λ s. record { reply = done; vertical = s.vertical; lines = lines_for s.request })
-    (λ n. record { reply = n; vertical = vertical_for q; lines = lines_for q })
+-- its values in the paper's terms: the vertical part and L are the code's own, beside a refusal too
+abbrev pub told_scale : Answer → Scaled
+told_scale a = record { reply = reply_of a.reply; vertical = a.scaled.vertical; lines = a.lines }
 
 -- what is handed on is of that request
-abbrev pub OfRequest : Request → Result Scaled Refusal → Type 0
-OfRequest q (Ok s) = s.request ≡ q
-OfRequest q (Err r) = Unit {0}
+abbrev pub OfRequest : Request → Answer → Type 0
+OfRequest q a = a.scaled.request ≡ q

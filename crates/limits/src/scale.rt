@@ -1,4 +1,4 @@
-// scale: the second step, which hands on what the numbers of a request come from.
+// scale: the second step: what the numbers of a request come from, and the answer that they decide.
 ghost use Rattle.std.specs.Prelude.{◌≡◌};
 ghost use Rattle.reply.specs.Reply.{done};
 ghost use Rattle.limits.specs.Replies.{limits_reply, scaled_for};
@@ -8,14 +8,28 @@ use crate::scaled::Scaled;
 use reply::Refusal;
 use scaler::request::Request;
 
+// The request with its vertical part, L, and the reply. A struct and no Result: beside a refusal there are values too.
+#[derive(Clone, Copy, Debug, PartialEq, Eq)]
+pub struct Answer {
+    pub scaled: Scaled,
+    pub lines: u32,
+    pub reply: Result<(), Refusal>,
+}
+
 // Compiled into its caller: a call, and the answer through memory, take 100 instructions more.
 #[inline(always)]
-pub fn scale(q: Request) -> Result<Scaled, Refusal>
+#[tactic(auto, unfolding(crate::specs::Replies::scaled_for))]
+pub fn scale(q: Request) -> Answer
     requires { limits_reply q ≡ done }
-    ensures told { told_scale q result ≡ scaled_for q }
+    ensures told { told_scale result ≡ scaled_for q }
     ensures of { OfRequest q result }
 {
     let scaled = Scaled::new(q);
-    scaled.scale_reply()?;
-    Ok(scaled)
+    let lines = scaled.lines();
+    let reply = scaled.scale_reply(lines);
+    Answer {
+        scaled,
+        lines,
+        reply,
+    }
 }

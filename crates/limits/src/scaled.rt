@@ -67,16 +67,16 @@ impl Scaled {
         (most < self.vertical.yiwgto) | (most < (self.vertical.top - yskip) / 2)
     }
 
-    // The answer by these and by the pixel clock.
+    // The answer by these and by the pixel clock, which takes L.
     #[tactic(auto, unfolding(crate::specs::Replies::scale_reply, scaler::specs::Limits::request_tests, reply::specs::Reply::lowest))]
-    pub(crate) fn scale_reply(&self) -> Result<(), Refusal>
-        requires { 0 < self.now.request.outlin }
+    pub(crate) fn scale_reply(&self, lines: u32) -> Result<(), Refusal>
+        requires { lines ≡ lines_for self.now.request }
         ensures { reply_of result ≡ scale_reply self.now.request }
     {
         if self.numbers_pass() {
             return Err(Refusal::TooLarge);
         }
-        if clock_passes(self.request.standard, self.request.inppl, self.lines()) {
+        if clock_passes(self.request.standard, self.request.inppl, lines) {
             return Err(Refusal::TooFast);
         }
         if self.weights_pass() {

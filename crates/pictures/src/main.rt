@@ -1,7 +1,7 @@
 // Pictures: for each request the check's reply and the fields' numbers, then the reply to writing it into a
 // file of 256 zero bytes, and what that file reads as. The requests are figures 1 to 6 of document 01 and
-// those that show the other replies. Reply 8 is not among them: it is proved that none gives it. After a write
-// that fails the program stops and says nothing: what is missing is seen where its output is compared.
+// those that show the other replies. Reply 8 is not among them: it is proved that none gives it. A write that
+// fails is not told: what is missing then is seen where the output is compared.
 #![tactic(auto)]
 
 use checks::check;
@@ -11,23 +11,8 @@ use reply::reply_of;
 use report::Hex;
 use report::examples::{FIGURE_1, FIGURE_4};
 use scaler::request::{Fields, PixelClocks, Request};
-use std::io;
 
-// What stands beside a refusal to read a file.
-const NO_REQUEST: Request = Request {
-    standard: 0,
-    inpix: 0,
-    inlin: 0,
-    inppl: 0,
-    outpix: 0,
-    outlin: 0,
-    offset: 0,
-    yskip: 0,
-    xofs: PixelClocks(0),
-    yofso: 0,
-};
-
-fn show_request(rt: &impl Print, request: Request) -> io::Result<()> {
+fn show_request(rt: &impl Print, request: Request) {
     let Request {
         standard,
         inpix,
@@ -40,67 +25,64 @@ fn show_request(rt: &impl Print, request: Request) -> io::Result<()> {
         xofs: PixelClocks(xofs),
         yofso,
     } = request;
-    print!(rt;
+    let _ = print!(rt;
         " standard {standard} InPix {inpix} InLin {inlin} InPpl {inppl} OutPix {outpix} OutLin {outlin}"
-    )?;
-    print!(rt; " offset {offset} YSKIP {yskip} XOFS {xofs} YOFSO {yofso}")
+    );
+    let _ = print!(rt; " offset {offset} YSKIP {yskip} XOFS {xofs} YOFSO {yofso}");
 }
 
-fn show_fields(rt: &impl Print, f: Fields) -> io::Result<()> {
-    print!(rt; "  FISE {} ADWHS {} ADWHE {}", f.fise, f.adwhs.0, f.adwhe.0)?;
-    print!(rt;
+fn show_fields(rt: &impl Print, f: Fields) {
+    let _ = print!(rt; "  FISE {} ADWHS {} ADWHE {}", f.fise, f.adwhs.0, f.adwhe.0);
+    let _ = print!(rt;
         " FAL {} LAL {} PCL {} XOFS {}",
         f.fal, f.lal, f.pcl, f.xofs.0
-    )?;
-    println!(rt; " XPIX {} YOFSO {} YOFSE {}", f.xpix, f.yofso, f.yofse)?;
-    print!(rt;
+    );
+    let _ = println!(rt; " XPIX {} YOFSO {} YOFSE {}", f.xpix, f.yofso, f.yofse);
+    let _ = print!(rt;
         "  YPIX {} HLEN {} XINC {} YINC {}",
         f.ypix, f.hlen.0, f.xinc, f.yinc
-    )?;
-    println!(rt;
+    );
+    let _ = println!(rt;
         " YIWGTO {} YIWGTE {} YSKIP {}",
         f.yiwgto, f.yiwgte, f.yskip
-    )
+    );
 }
 
 // What a file reads as: the request that was wanted, or another with its numbers, all 0 beside a refusal.
-fn show_read(rt: &impl Print, file: &[u8], wanted: Request) -> io::Result<()> {
-    let (reply, request) = match read_picture(file) {
-        Ok(request) => (0, request),
-        Err(refusal) => (u8::from(refusal), NO_REQUEST),
-    };
-    print!(rt; "  read: {reply},")?;
+fn show_read(rt: &impl Print, file: &[u8], wanted: Request) {
+    let (reply, request) = readback::numbers_of(read_picture(file));
+    let _ = print!(rt; "  read: {reply},");
     if request == wanted {
-        return println!(rt; " same request");
+        let _ = println!(rt; " same request");
+        return;
     }
-    show_request(rt, request)?;
-    println!(rt;)
+    show_request(rt, request);
+    let _ = println!(rt;);
 }
 
-fn show_file(rt: &impl Print, file: &mut [u8], request: Request) -> io::Result<()> {
+fn show_file(rt: &impl Print, file: &mut [u8], request: Request) {
     let reply = reply_of(write_picture(file, request));
-    println!(rt; "  write: {reply}")?;
-    show_read(rt, file, request)
+    let _ = println!(rt; "  write: {reply}");
+    show_read(rt, file, request);
 }
 
-fn show(rt: &impl Print, name: &str, request: Request) -> io::Result<()> {
-    print!(rt; "{name}\n ")?;
-    show_request(rt, request)?;
-    match check(request) {
-        Ok(fields) => {
-            println!(rt; ": 0")?;
-            show_fields(rt, fields)?;
-        }
-        Err(refusal) => println!(rt; ": {}", u8::from(refusal))?,
+fn show(rt: &impl Print, name: &str, request: Request) {
+    let _ = print!(rt; "{name}\n ");
+    show_request(rt, request);
+    let checked = check(request);
+    let (reply, fields) = checks::numbers_of(checked);
+    let _ = println!(rt; ": {reply}");
+    if checked.is_ok() {
+        show_fields(rt, fields);
     }
-    show_file(rt, &mut [0; 256], request)
+    show_file(rt, &mut [0; 256], request);
 }
 
 // PCL's three bytes in the file, the lowest first.
-fn show_clock(rt: &impl Print, request: Request) -> io::Result<()> {
+fn show_clock(rt: &impl Print, request: Request) {
     let mut file = [0; 256];
     let _ = write_picture(&mut file, request);
-    println!(rt; "  places 81h to 83h:{}", Hex(&file[0x81..0x84]))
+    let _ = println!(rt; "  places 81h to 83h:{}", Hex(&file[0x81..0x84]));
 }
 
 // 640 x 480 at 60 Hz.
@@ -134,44 +116,40 @@ fn long_lines(inppl: u16) -> Request {
 }
 
 // The second request of figure 5 is refused with 7, that of figure 6 with 6.
-fn figures(rt: &impl Print) -> io::Result<()> {
-    show(rt, "figure 1", FIGURE_1)?;
-    show_clock(rt, FIGURE_1)?;
-    show(rt, "figure 2", vga_60(800, 220, 0, 0))?;
-    show(rt, "figure 3", vga_60(800, 212, 0, 2048))?;
-    show(rt, "figure 4", FIGURE_4)?;
-    show(rt, "figure 5, InPpl 1283", vga_60(1283, 216, 0, 0))?;
-    show(rt, "figure 5, InPpl 1284", vga_60(1284, 216, 0, 0))?;
-    show(rt, "figure 6, OutLin 240", vga_50(240))?;
-    show(rt, "figure 6, OutLin 241", vga_50(241))
+fn figures(rt: &impl Print) {
+    show(rt, "figure 1", FIGURE_1);
+    show_clock(rt, FIGURE_1);
+    show(rt, "figure 2", vga_60(800, 220, 0, 0));
+    show(rt, "figure 3", vga_60(800, 212, 0, 2048));
+    show(rt, "figure 4", FIGURE_4);
+    show(rt, "figure 5, InPpl 1283", vga_60(1283, 216, 0, 0));
+    show(rt, "figure 5, InPpl 1284", vga_60(1284, 216, 0, 0));
+    show(rt, "figure 6, OutLin 240", vga_50(240));
+    show(rt, "figure 6, OutLin 241", vga_50(241));
 }
 
 // The refusals 4, 5, and 6 for HLEN's eleven bits: of each pair, which differ in one number, the second.
-fn limits(rt: &impl Print) -> io::Result<()> {
-    show(rt, "figure 1, InPpl 720", vga_60(720, 216, 0, 0))?;
-    show(rt, "figure 1, InPpl 719", vga_60(719, 216, 0, 0))?;
-    show(rt, "figure 1, offset -8", vga_60(800, 216, -8, 0))?;
-    show(rt, "figure 1, offset 9", vga_60(800, 216, 9, 0))?;
-    show(rt, "few lines, InPpl 2048", long_lines(2048))?;
-    show(rt, "few lines, InPpl 2049", long_lines(2049))
+fn limits(rt: &impl Print) {
+    show(rt, "figure 1, InPpl 720", vga_60(720, 216, 0, 0));
+    show(rt, "figure 1, InPpl 719", vga_60(719, 216, 0, 0));
+    show(rt, "figure 1, offset -8", vga_60(800, 216, -8, 0));
+    show(rt, "figure 1, offset 9", vga_60(800, 216, 9, 0));
+    show(rt, "few lines, InPpl 2048", long_lines(2048));
+    show(rt, "few lines, InPpl 2049", long_lines(2049));
 }
 
 // The refusals 1 and 9, which the file decides.
-fn files(rt: &impl Print) -> io::Result<()> {
-    println!(rt; "figure 1 and a file of 255 bytes")?;
-    show_file(rt, &mut [0; 255], FIGURE_1)?;
-    println!(rt; "figure 1 and a file of 257 bytes")?;
-    show_file(rt, &mut [0; 257], FIGURE_1)?;
-    println!(rt; "a file of 256 zero bytes")?;
-    show_read(rt, &[0; 256], FIGURE_1)
-}
-
-fn pictures(rt: &impl Print) -> io::Result<()> {
-    figures(rt)?;
-    limits(rt)?;
-    files(rt)
+fn files(rt: &impl Print) {
+    let _ = println!(rt; "figure 1 and a file of 255 bytes");
+    show_file(rt, &mut [0; 255], FIGURE_1);
+    let _ = println!(rt; "figure 1 and a file of 257 bytes");
+    show_file(rt, &mut [0; 257], FIGURE_1);
+    let _ = println!(rt; "a file of 256 zero bytes");
+    show_read(rt, &[0; 256], FIGURE_1);
 }
 
 fn main(rt: HostRuntime) {
-    let _ = pictures(&rt);
+    figures(&rt);
+    limits(&rt);
+    files(&rt);
 }

@@ -31,3 +31,20 @@ pub fn plan(from: &[u8], to: &[u8], out: &mut [u8]) -> Result<Planned, Refusal>
         bursts: headings.len(),
     })
 }
+
+// An answer by its numbers: the reply, and the list's bytes and bursts, both 0 beside a refusal.
+#[tactic(auto, unfolding(crate::specs::Plan::refusal))]
+pub fn numbers_of(answer: Result<Planned, Refusal>) -> (u8, Planned)
+    ensures { told_plan answer ≡ record { reply = result.0; bytes = result.1.bytes; bursts = result.1.bursts } }
+{
+    match answer {
+        Ok(list) => (0, list),
+        Err(refusal) => (
+            u8::from(refusal),
+            Planned {
+                bytes: 0,
+                bursts: 0,
+            },
+        ),
+    }
+}

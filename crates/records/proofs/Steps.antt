@@ -3,12 +3,12 @@
 use mathlib.Core.Path.{◌≡◌, refl, sym, ap, subst, ◌∙◌}
 use mathlib.Core.Bool.{Bool, true, false, ◌&&◌, and-false, and-eq-true_iff}
 use mathlib.Core.List.{List, ◌∷◌}
-use Prim.Native.Nat.{ℕ, zero, suc, ◌+◌, ◌-◌, ◌<◌, ◌≤◌}
+use Prim.Native.Nat.{ℕ, zero, suc, ◌+◌, ◌<◌, ◌≤◌}
 use native.Mathlib.Numerals.{add-one}
 use native.Mathlib.Omega.{arith}
 use borrow.Author.Tests.{ltb-true, lt-ltb, leb-true, leb-false, le-leb, lt-leb}
 use lib.Dec.{ltb, leb}
-use lib.ListN.{length, get_or, take, drop, drop_of_length-le, length-take, length-drop}
+use lib.ListN.{length, get_or, drop, drop_of_length-le, length-drop}
 use lib.Seq.{drop-cons}
 use Rattle.records.specs.Records.{body_length, whole, step_of, record_at}
 use Rattle.records.specs.Records.{Step, Record, Broken, End}
@@ -81,30 +81,6 @@ module _ (session : List ℕ) (at : ℕ) (l : at < length session) where
   pub at_broken : whole kind rest ≡ false → record_at session at ≡ Broken kind
   unfolding step_of
   at_broken f = rw (at_kind, f)
-
-  -- a body taken out of the session, and where it begins, from its length and from where it ends
-  module _ (n : ℕ) (known : 0 < n) (is_length : n ≡ body_length kind) (long : n ≤ length session - (at + 1)) where
-    abbrev body : List ℕ
-    body = take (at + 1 + n - (at + 1)) (drop (at + 1) session)
-
-    taken : length body ≡ n
-    taken =
-        let t = length-take (at + 1 + n - (at + 1)) (drop (at + 1) session) in
-        let d = length-drop (at + 1) session in
-        omega arith
-
-    begins : at + 1 + n - length body ≡ at + 1
-    begins = let t = taken in omega arith
-
-    pub at_body : Record kind (at + 1 + n - length body) (at + 1 + n) ≡ record_at session at
-    at_body =
-        let d = length-drop (at + 1) session in
-        rw (begins, is_length) (sym (at_record (known_whole kind rest (omega arith) (omega arith))))
-
-    pub body_is : body ≡ take (length body) (drop (at + 1 + n - length body) session)
-    body_is =
-        let e : at + 1 + n - (at + 1) ≡ n = omega arith in
-        rw (begins, taken) (ap (λ m. take m (drop (at + 1) session)) e)
 
 -- ---- what a step tells of its place
 

@@ -2,7 +2,7 @@
 // the slice and the place, has the work.
 ghost use Rattle.std.specs.Prelude.{◌≡◌};
 ghost use Rattle.records.specs.Records.{record_at};
-ghost use Rattle.records.specs.Told.{told_step, HoldsBody};
+ghost use Rattle.records.specs.Told.{told_step};
 
 use crate::step::{Step, record_at};
 
@@ -20,17 +20,15 @@ pub fn reader_at<'a>(session: &'a [u8], at: usize) -> Reader<'a>
 }
 
 // The record at the reader's place.
-pub fn next<'a>(reader: Reader<'a>) -> Step<'a>
-    ensures step { told_step result ≡ record_at reader.entry.session.now reader.entry.at }
-    ensures body { HoldsBody reader.entry.session.now result }
+pub fn next<'a>(reader: Reader<'a>) -> Step
+    ensures { told_step result ≡ record_at reader.entry.session.now reader.entry.at }
 {
     record_at(reader.session, reader.at)
 }
 
 // The same for a caller that keeps the place itself: a reader is made there and asked.
-pub fn next_from<'a>(session: &'a [u8], at: usize) -> Step<'a>
-    ensures step { told_step result ≡ record_at session.now at }
-    ensures body { HoldsBody session.now result }
+pub fn next_from(session: &[u8], at: usize) -> Step
+    ensures { told_step result ≡ record_at session.now at }
 {
     next(reader_at(session, at))
 }

@@ -6,7 +6,7 @@ use Prim.Native.Nat.{ℕ, ◌+◌, ◌-◌, ◌<◌, ◌≤◌}
 use native.Mathlib.Numerals.{add-one}
 use native.Mathlib.Omega.{arith}
 use borrow.Rule.Slice.PartMut.{put_mid, mid_of, mid_len}
-use lib.ListN.{length, get_or, take, drop, length-append, length-drop, drop_of_length-le}
+use lib.ListN.{length, get_or, take, drop, length-append, length-take, length-drop, drop_of_length-le}
 use lib.Seq.{sets, sets-eq, length-sets, take_all, drop-cons, drop-drop}
 use Rattle.std.proofs.Common.{append_assoc}
 use Rattle.std.proofs.lemmas.List.{append-nil}
@@ -15,8 +15,9 @@ use Rattle.reply.specs.Reply.{wrong_length}
 use Rattle.bus.specs.declared.state.State.{State}
 use Rattle.lines.specs.Lines.{line}
 use Rattle.records.specs.Records.{body_length}
-use Rattle.records.proofs.Steps.{RecordTells, BrokenTells}
+use Rattle.records.proofs.Steps.{RecordTells, BrokenTells, whole_known}
 use Rattle.effects.specs.Effects.{outcome}
+use Rattle.effects.specs.Parts.{Body}
 use Rattle.session.specs.Runs.{line_of, printing, play}
 use Rattle.session.proofs.Plays.{play_done, play_broken, play_read}
 
@@ -69,13 +70,14 @@ from_place session at kind l e = rw (add-one at, e) (drop-cons session at 0 l)
 abbrev pub body_of : List ℕ → ℕ → ℕ → List ℕ
 body_of session body next = take (next - body) (drop body session)
 
-pub body_found : (session : List ℕ) (at kind next : ℕ) (body : List ℕ) → length body ≡ body_length kind
-    → RecordTells session at kind (next - length body) next
-    → body ≡ take (length body) (drop (next - length body) session)
-    → body ≡ body_of session (next - length body) next
-body_found session at kind next body l t e =
-    let n : next - (next - length body) ≡ length body = omega (arith, t.is_next) in
-    rw n e
+pub body_there : (session : List ℕ) (at kind body next : ℕ) → RecordTells session at kind body next
+    → Body kind (body_of session body next)
+body_there session at kind body next t =
+    record {
+      known = whole_known kind (drop body session) t.is_whole;
+      long = rw (length-take (next - body) (drop body session), length-drop body session)
+          (omega (arith, t.is_next, t.fits));
+    }
 
 module _ (first : State) (session before : List ℕ) (s : State) (out : List ℕ) (at bytes : ℕ)
     (p : Playing first session before s out at bytes) where
@@ -97,21 +99,17 @@ module _ (first : State) (session before : List ℕ) (s : State) (out : List ℕ
     all_count = let e = ap length left_none in let c = p.count in omega arith
 
   -- a whole record is next
-  module _ (kind start next : ℕ) (body : List ℕ) (t : RecordTells session at kind start next)
-      (h : body ≡ body_of session start next) (s' : State) (reply : ℕ)
-      (o : record { state = s'; reply = reply } ≡ outcome s kind body) where
+  module _ (kind body next : ℕ) (t : RecordTells session at kind body next) (s' : State) (reply : ℕ)
+      (o : record { state = s'; reply = reply } ≡ outcome s kind (body_of session body next)) where
     abbrev text : List ℕ
-    text = line_of kind body (record { state = s'; reply = reply })
+    text = line_of kind (body_of session body next) (record { state = s'; reply = reply })
 
     -- what is left behind the kind byte, and the body at its front
     abbrev behind : List ℕ
     behind = drop (at + 1) session
 
-    body_place : take (body_length kind) behind ≡ body_of session start next
-    body_place = let n : next - start ≡ body_length kind = omega (arith, t.is_next) in rw (n, t.is_body)
-
-    body_is : take (body_length kind) behind ≡ body
-    body_is = body_place ∙ sym h
+    body_is : take (body_length kind) behind ≡ body_of session body next
+    body_is = let n : next - body ≡ body_length kind = omega (arith, t.is_next) in rw (n, t.is_body)
 
     done_is : outcome s kind (take (body_length kind) behind) ≡ record { state = s'; reply = reply }
     done_is = ap (outcome s kind) body_is ∙ sym o

@@ -9,6 +9,7 @@ use effects::effect::do_record;
 use effects::print::print_record;
 use lines::put_line;
 use records::reader::next_from;
+use records::record::Record;
 use records::step::Step;
 use reply::Refusal;
 
@@ -27,36 +28,61 @@ pub struct Ran {
     pub bytes: usize,
 }
 
-// The records from the first to the last, each on the state that the one before left. The answer is how many
-// bytes were printed.
+// The records from the first to the last, each on what the one before left. The arrays are taken out of the state
+// once and put together again at the end: of those that nothing reads then, as the colours under bench, the compiler
+// leaves out the writes, which it can't for a state that is lent whole.
 #[tactic(auto, using(crate::proofs::Fitting::session_fits))]
-fn walk(state: &mut State, session: &[u8], out: &mut [u8]) -> usize
+fn walk(state: State, session: &[u8], out: &mut [u8]) -> Ran
     requires { (length session.now ≤ longest_session) × (longest_print ≤ length out.old) }
-    ensures state { state.new ≡ (play state.old 0 session.now).state }
-    ensures bytes { result ≡ length (play state.old 0 session.now).printed }
-    ensures out { out.new ≡ sets out.old 0 (play state.old 0 session.now).printed }
+    ensures state { result.state ≡ (play state 0 session.now).state }
+    ensures bytes { result.bytes ≡ length (play state 0 session.now).printed }
+    ensures out { out.new ≡ sets out.old 0 (play state 0 session.now).printed }
 {
+    let State {
+        mut file,
+        mut colours,
+        mut cursor,
+        status,
+        chip,
+        fifo,
+    } = state;
     let mut at = 0;
     let mut bytes = 0;
     // No `for`: each record says where the next begins.
     loop {
         match next_from(session, at) {
-            Step::Record { whole, next } => {
-                let answer = do_record(state, whole);
-                bytes += print_record(&mut out[bytes..], whole, answer, &state.file);
+            Step::Record { kind, body, next } => {
+                let whole = Record {
+                    kind,
+                    body: &session[body..next],
+                };
+                let answer = do_record(&mut file, &mut colours, &mut cursor, whole);
+                bytes += print_record(&mut out[bytes..], whole, answer, &file);
                 at = next;
             }
             Step::Broken(kind) => {
                 let reply = u8::from(Refusal::WrongLength);
-                return bytes + put_line(&mut out[bytes..], kind, reply, None);
+                bytes += put_line(&mut out[bytes..], kind, reply, None);
+                break;
             }
-            Step::End => return bytes,
+            Step::End => break,
         }
+    }
+    Ran {
+        state: State {
+            file,
+            colours,
+            cursor,
+            status,
+            chip,
+            fifo,
+        },
+        bytes,
     }
 }
 
 // A session done on a state. A buffer under the longest print is refused: nothing is done.
-pub fn run(mut state: State, session: &[u8], out: &mut [u8]) -> Ran
+pub fn run(state: State, session: &[u8], out: &mut [u8]) -> Ran
     ensures { (result ≡ run_answer state session.now out.old)
         × (out.new ≡ run_buffer state session.now out.old) }
 {
@@ -68,8 +94,7 @@ pub fn run(mut state: State, session: &[u8], out: &mut [u8]) -> Ran
         let bytes = put_line(out, 0, u8::from(Refusal::WrongLength), None);
         return Ran { state, bytes };
     }
-    let bytes = walk(&mut state, session, out);
-    Ran { state, bytes }
+    walk(state, session, out)
 }
 
 // A session done on a fresh SAA7103: how many bytes were printed.

@@ -26,22 +26,22 @@ returns-in_err-limits_reply c =
     let e : number_of r ≡ limits_reply q = c.in_err-limits_reply.ensures in
     rw (p.1, p.2) (refused q r (e ∙ sym (by_limits q (λ z. not_done r (e ∙ z)))))
 
-pub returns-in_err-scaled : goal.returns-in_err-scaled
-returns-in_err-scaled c =
+pub returns-in_err-answer : goal.returns-in_err-answer
+returns-in_err-answer c =
     let q = c.args.request in
-    let f = c.from_residual-in_err-scaled in
+    let f = c.from_residual-in_err-answer in
     let p = err_from_is_err_and f.result f.ensures.1 in
-    let e = scaled_reply q _ c.in_err-scaled.ensures.told (sym c.in_ok-limits_reply.ensures) in
-    rw (p.1, p.2) (refused q c.in_err-scaled.field-0.0 e)
+    let e = scaled_reply q _ c.scale-answer.ensures.told (sym c.in_ok-limits_reply.ensures) in
+    rw (p.1, p.2) (refused q c.in_err-answer.field-0.0 (rw c.in_err-answer.was at e))
 
 pub numbers-requires : goal.numbers-requires
 numbers-requires c =
-    let s = c.in_ok-scaled.ensures in
-    rw s.of (sym (scaled_reply c.args.request _ s.told (sym c.in_ok-limits_reply.ensures)))
+    let s = c.scale-answer.ensures in
+    rw (s.of, ← scaled_reply c.args.request _ s.told (sym c.in_ok-limits_reply.ensures), c.in_ok-answer.was)
 
 pub returns : goal.returns
 unfolding checked
 returns c =
-    let s = c.in_ok-scaled.ensures in
+    let s = c.scale-answer.ensures in
     let e = scaled_reply c.args.request _ s.told (sym c.in_ok-limits_reply.ensures) in
-    rw (sym e, c.numbers.ensures, s.of)
+    rw (sym e, c.numbers.ensures, s.of, c.in_ok-answer.was)

@@ -30,5 +30,5 @@ returns-then-session-gt-LONGEST_SESSION c = let s = c.args.state in
 pub returns : goal.returns
 returns c = let room = c.if-out-lt-LONGEST_PRINT.false in
     let a = walked _ _ _ room c.if-session-gt-LONGEST_SESSION.false in
-    let e = c.walk-bytes.ensures in
+    let e = c.walk.ensures in
     (ap₂ (λ s n. record { state = s; bytes = n }) e.state e.bytes ∙ a.told, e.out ∙ a.kept)
